@@ -1,0 +1,4 @@
+pub mod Growth
+pub mod Solution
+pub mod Coverage
+pub mod Values
