@@ -1,0 +1,45 @@
+-- The next item, entry by entry.
+use Rattle.std.proofs.Common.{◌≡◌, ℕ, suc, ◌+◌, ◌-◌, ◌<◌, true, false, List, [], ◌∷◌, length, drop, get_or, ◌==◌, arith, refl, sym, Ok, Err, Result, Some, None, Option}
+use Rattle.std.specs.Prelude.{slice_get}
+use Rattle.bitstream.specs.declared.item.BitFault.{BitFault}
+use Rattle.bitstream.specs.declared.item.AbbrevOp.{AbbrevOp}
+use Rattle.bitstream.specs.Fields.{Place}
+use Rattle.bitstream.specs.Stream.{values_at, behind_numbers, Values}
+use Rattle.bitstream.specs.Reading.{Context, Seen, at_end, entry_at, next_at, judged, abbreviated_at}
+
+pub next-some : (n left : ℕ) (c after : Context) (p q : Place) (s : Seen) → left ≡ suc n → at_end c p ≡ false → entry_at c p ≡ Ok ((Some s, after), q)
+    → next_at left c p ≡ Ok ((p.at, s, after), q)
+next-some n left c after p q s count more is = rw (count, more, is) refl
+
+pub next-none : (n left : ℕ) (c after : Context) (p q : Place) → left ≡ suc n → at_end c p ≡ false → entry_at c p ≡ Ok ((None, after), q)
+    → next_at left c p ≡ next_at n after q
+next-none n left c after p q count more is = rw (count, more, is) refl
+
+pub next-err : (n left : ℕ) (c : Context) (p : Place) (e : BitFault) → left ≡ suc n → at_end c p ≡ false → entry_at c p ≡ Err e → next_at left c p ≡ Err e
+next-err n left c p e count more is = rw (count, more, is) refl
+
+pub behind-none : (r : Result (Values × Place) BitFault) → behind_numbers [] r ≡ r
+behind-none (Ok r) = refl
+behind-none (Err e) = refl
+
+pub abbreviated-is : (at id : ℕ) (c : Context) (p q : Place) (ops : List AbbrevOp) (code : ℕ) (numbers rest : List ℕ) (blob : Option (List ℕ))
+    → slice_get c.abbrevs (c.scope.first + (id - 4)) ≡ Some ops → values_at ops p ≡ Ok (record { numbers = numbers; blob = blob }, q) → numbers ≡ code ∷ rest
+    → abbreviated_at at id c p ≡ judged at code rest blob c q
+abbreviated-is at id c p q ops code numbers rest blob found is numbers-is = rw (found, is, numbers-is) refl
+
+pub abbreviated-none : (at id : ℕ) (c : Context) (p q : Place) (ops : List AbbrevOp) (numbers : List ℕ) (blob : Option (List ℕ))
+    → slice_get c.abbrevs (c.scope.first + (id - 4)) ≡ Some ops → values_at ops p ≡ Ok (record { numbers = numbers; blob = blob }, q) → numbers ≡ []
+    → abbreviated_at at id c p ≡ judged at 0 numbers blob c q
+abbreviated-none at id c p q ops numbers blob found is numbers-is = rw (found, is, numbers-is) refl
+
+pub uncons : (xs rest : List ℕ) (x : ℕ) → 0 < length xs → x ≡ get_or xs 0 x → rest ≡ drop 1 xs → xs ≡ x ∷ rest
+uncons [] rest x some a b = absurd (omega (arith, some))
+uncons (y ∷ ys) rest x some a b = rw (a, b) refl
+
+pub none_left : (xs : List ℕ) (n : ℕ) → (n == 0) ≡ true → length xs ≡ n → xs ≡ []
+none_left [] n none len = refl
+none_left (x ∷ xs) n none len = let h : (suc (length xs) == 0) ≡ true = rw (sym len) at none in absurd (grind (arith, h))
+
+pub some_left : (xs : List ℕ) (n : ℕ) → (n == 0) ≡ false → length xs ≡ n → 0 < length xs
+some_left [] n some len = let h : (0 == 0) ≡ false = rw (sym len) at some in absurd (grind (arith, h))
+some_left (x ∷ xs) n some len = omega arith

@@ -1,0 +1,10 @@
+pub mod BitLaws
+pub mod EntryLaws
+pub mod EntryReadingLaws
+pub mod FieldLaws
+pub mod GroupLaws
+pub mod ListLaws
+pub mod NumberLaws
+pub mod SpellingLaws
+pub mod StreamLaws
+pub mod WritingLaws

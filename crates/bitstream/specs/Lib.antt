@@ -1,0 +1,11 @@
+pub mod Bits
+pub mod Buffer
+pub mod Cursor
+pub mod Entries
+pub mod Fields
+pub mod Known
+pub mod Reading
+pub mod Spelling
+pub mod Stream
+pub mod Writer
+pub mod Writing

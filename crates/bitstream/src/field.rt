@@ -1,0 +1,93 @@
+//! Numbers in bytes, from a bit on: of a fixed width, and in groups.
+
+ghost use Rattle.std.specs.Prelude.{◌≡◌, ◌≤◌, ◌*◌, ◌+◌, ◌^◌, ◌<◌, length, OnOk, IfOk, IfSome, IfNone};
+ghost use Rattle.bitstream.specs.Bits.{value, bits_of};
+ghost use Rattle.bitstream.specs.Fields.{fixed_at, vbr_at, place, Gives, GivesWith};
+
+use crate::BitFault;
+
+/// The bytes as one number, the first the lowest.
+fn word(bytes: &[u8]) -> u128
+    requires { length bytes.now ≤ 16 }
+    ensures { result ≡ value (bits_of bytes.now) }
+{
+    let mut sum = 0u128;
+    let mut i = bytes.len();
+    while i > 0 {
+        i -= 1;
+        sum = (sum << 8) | bytes[i] as u128;
+    }
+    sum
+}
+
+/// The number in `width` bits from the bit `at` on.
+pub fn fixed_field(bytes: &[u8], at: u128, width: u32) -> Result<u64, BitFault>
+    requires width { width ≤ 64 }
+    requires at { at ≤ 8 * length bytes.now }
+    ensures read { Gives (place bytes.now (at + width)) result (fixed_at width (place bytes.now at)) }
+    ensures end { OnOk result (at + width ≤ 8 * length bytes.now) }
+    ensures value { IfOk result (λ v. v < 2 ^ width) }
+{
+    let (_, rest) = bytes.split_at((at / 8) as usize);
+    let skip = (at % 8) as u32;
+    let need = ((skip + width + 7) / 8) as usize;
+    if rest.len() < need {
+        return Err(BitFault::Short { at });
+    }
+    let (front, _) = rest.split_at(need);
+    Ok(((word(front) >> skip) & ((1u128 << width) - 1)) as u64)
+}
+
+/// The sum with a digit more, unless it doesn't fit.
+fn with_digit(sum: u64, digit: u64, shift: u128) -> Option<u64>
+    requires { sum < 2 ^ shift }
+    ensures some { IfSome result (λ more. more ≡ sum + 2 ^ shift * digit) }
+    ensures fits { IfSome result (λ more. more < 2 ^ 64) }
+    ensures none { IfNone result (2 ^ 64 ≤ sum + 2 ^ shift * digit) }
+{
+    if digit == 0 {
+        return Some(sum);
+    }
+    if shift >= 64 {
+        return None;
+    }
+    let shift = shift as u32;
+    if digit > u64::MAX >> shift {
+        return None;
+    }
+    Some(sum + (digit << shift))
+}
+
+/// The number in groups of `width` bits from the bit `at` on, and the bit behind it.
+#[tactic(auto, unfolding(crate::specs::Fields::vbr_at))]
+pub fn vbr_field(bytes: &[u8], at: u128, width: u32) -> Result<(u64, u128), BitFault>
+    requires width { width ≤ 32 }
+    requires at { at ≤ 8 * length bytes.now }
+    ensures read { GivesWith bytes.now result (vbr_at width (place bytes.now at)) }
+    ensures end { IfOk result (λ x. x.1 ≤ 8 * length bytes.now) }
+{
+    if width == 0 {
+        return Ok((0, at));
+    }
+    let low = width - 1;
+    let top = 1u64 << low;
+    let mut sum = 0u64;
+    let mut shift = 0u128;
+    let mut here = at;
+    'each: loop {
+        let group = match fixed_field(bytes, here, width) {
+            Ok(group) => group,
+            Err(fault) => return Err(fault),
+        };
+        here += width as u128;
+        let digit = group & (top - 1);
+        match with_digit(sum, digit, shift) {
+            Some(more) => sum = more,
+            None => return Err(BitFault::WideNumber { at }),
+        }
+        if group < top {
+            return Ok((sum, here));
+        }
+        shift += low as u128;
+    }
+}

@@ -1,0 +1,30 @@
+//! The LLVM Bitstream Container Format (<https://llvm.org/docs/BitCodeFormat.html>): blocks, records,
+//! abbreviations and blobs, written to bytes and read from them.
+#![tactic(auto)]
+
+mod abbrev;
+mod buffer;
+mod cursor;
+mod definition;
+mod entries;
+mod field;
+mod item;
+mod laws;
+mod lists;
+mod no_memory;
+mod operands;
+mod reader;
+mod slice;
+mod text;
+mod writer;
+
+pub use item::{AbbrevOp, BitFault, Item};
+pub use laws::{fixed_is_read_back, vbr_is_read_back, vbr_is_read_where_it_stands};
+pub use no_memory::NoMemory;
+pub use operands::Operands;
+pub use reader::BitReader;
+pub use text::Text;
+pub use writer::BitWriter;
+
+#[cfg(test)]
+mod tests;
