@@ -1,0 +1,15 @@
+pub mod Fronts
+pub mod Words
+pub mod Longest
+pub mod Places
+pub mod Numbers
+pub mod Scanned
+pub mod Escapes
+pub mod Standings
+pub mod Soundness
+pub mod Completeness
+pub mod GapLemmas
+pub mod Boundaries
+pub mod Placing
+pub mod Lexed
+pub mod Turns

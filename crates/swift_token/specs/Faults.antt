@@ -1,0 +1,65 @@
+-- The tokens of a whole text, with comments between them, and its lexical fault.
+use Rattle.std.specs.Prelude.{ℕ, ◌≡◌, ◌<◌, ◌↔◌, Bool, true, false, ◌&&◌, ◌||◌, not, List, [], ◌∷◌, ◌++◌, ◌==◌, length, if◌then◌else◌, map, Result, Ok, Err, Vec}
+use Rattle.std.specs.Global.{Global}
+use Rattle.swift_ast.specs.Leaves.{Leaf, leaf_of}
+use Rattle.swift_token.specs.declared.faults.LexWhat.{LexWhat}
+use Rattle.swift_token.specs.declared.faults.LexWhat.TheVariants.{BadCharacter, BadNumber, WideNumber, OpenString, BadEscape, OpenComment}
+use Rattle.swift_token.specs.declared.faults.LexFault.{LexFault}
+use Rattle.swift_token.specs.declared.faults.LexEnd.{LexEnd}
+use Rattle.swift_token.specs.declared.faults.LexEnd.TheVariants.{Fault, NoMemory}
+use Rattle.swift_ast.specs.declared.Token.{Token}
+use Rattle.swift_token.specs.Texts.{is_escape, breaks_string, is_blank, is_letter, is_word_byte, is_number, number_value, is_among, marks}
+use Rattle.swift_token.specs.Spelling.{begins_by, IsTokenIn, IsPlaced, line_behind, column_behind}
+use Rattle.swift_token.specs.Gaps.{IsGap, IsLastGap, BeginsWith, closes_comment}
+
+-- The tokens spell the text behind `before`, a text through a token, with blanks and comments between them, up to what stands at the end.
+abbrev pub SpellsTo : (List ℕ → List ℕ → Type 0) → List ℕ → List Leaf → List ℕ → Type 0
+SpellsTo End before [] rest = End before rest
+SpellsTo End before (t ∷ ts) rest =
+    (gap : List ℕ) × (after : List ℕ) × IsGap gap × (rest ≡ gap ++ (t.text ++ after)) × IsTokenIn t.kind t.text after × IsPlaced before gap t
+    × SpellsTo End (before ++ (gap ++ t.text)) ts after
+
+-- The tokens spell the text, and blanks and comments stand behind the last.
+abbrev pub Spells : List Leaf → List ℕ → Type 0
+Spells ts text = SpellsTo (λ before rest. IsLastGap rest) [] ts text
+
+-- characters of a string and escapes, none of which is cut off at the end
+abbrev pub is_string_part : Bool → List ℕ → Bool
+is_string_part escaped [] = not escaped
+is_string_part false (c ∷ cs) = not (c == 34 || breaks_string c) && is_string_part (c == 92) cs
+is_string_part true (c ∷ cs) = is_escape c && is_string_part false cs
+
+-- what stands behind a string's opening quote, through the one that closes it: any byte of the line may stand behind a `\`
+abbrev pub closes_string : Bool → List ℕ → Bool
+closes_string escaped [] = false
+closes_string false (c ∷ cs) = if c == 34 then length cs == 0 else not (breaks_string c) && closes_string (c == 92) cs
+closes_string true (c ∷ cs) = not (breaks_string c) && closes_string false cs
+
+-- A fault of the kind stands in front of `after`, where `front` is what stands before it of the token that it is in.
+abbrev pub FaultAt : LexWhat → List ℕ → List ℕ → Type 0
+FaultAt BadCharacter front after =
+    (front ≡ []) × (c : ℕ) × (cs : List ℕ) × (after ≡ c ∷ cs) × ((is_blank c || is_word_byte c || c == 34) ≡ false) × (BeginsWith (is_among marks) after → ⊥)
+FaultAt BadNumber front after =
+    (front ≡ []) × (number : List ℕ) × (c : ℕ) × (cs : List ℕ) × (after ≡ number ++ (c ∷ cs)) × (is_number number ≡ true) × (is_letter c ≡ true)
+FaultAt WideNumber front after =
+    (front ≡ []) × (number : List ℕ) × (rest : List ℕ) × (after ≡ number ++ rest) × (is_number number ≡ true) × (begins_by is_word_byte rest ≡ false) × (9223372036854775807 < number_value number)
+FaultAt OpenString front after = (front ≡ []) × (cs : List ℕ) × (after ≡ 34 ∷ cs) × (BeginsWith (closes_string false) cs → ⊥)
+FaultAt BadEscape front after =
+    (good : List ℕ) × (d : ℕ) × (cs : List ℕ) × (front ≡ 34 ∷ good) × (after ≡ 92 ∷ d ∷ cs) × (is_string_part false good ≡ true) × ((is_escape d || breaks_string d) ≡ false) × BeginsWith (closes_string false) cs
+FaultAt OpenComment front after = (front ≡ []) × (cs : List ℕ) × (after ≡ 47 ∷ 42 ∷ cs) × (BeginsWith (closes_comment 1 0) cs → ⊥)
+
+-- The fault stands behind a gap in what is left behind `before`.
+abbrev pub IsFault : LexFault → List ℕ → List ℕ → Type 0
+IsFault f before rest =
+    (gap : List ℕ) × (front : List ℕ) × (after : List ℕ) × IsGap gap × (rest ≡ gap ++ (front ++ after)) × FaultAt f.what front after
+    × (f.line ≡ line_behind (before ++ (gap ++ front))) × (f.column ≡ column_behind (before ++ (gap ++ front)))
+
+-- The text has the lexical fault: tokens spell it up to the fault.
+abbrev pub HasFault : LexFault → List ℕ → Type 0
+HasFault f text = (ts : List Leaf) × SpellsTo (IsFault f) [] ts text
+
+-- Exactly the one list of tokens that spells the text, or exactly its one fault, unless memory ran out.
+abbrev pub Lexes : Result (Vec Token Global) LexEnd → List ℕ → Type 0
+Lexes (Ok tokens) text = ((ts : List Leaf) → (map leaf_of tokens.items ≡ ts) ↔ Spells ts text) × ((f : LexFault) → HasFault f text → ⊥)
+Lexes (Err (Fault found)) text = ((f : LexFault) → (found ≡ f) ↔ HasFault f text) × ((ts : List Leaf) → Spells ts text → ⊥)
+Lexes (Err NoMemory) text = Unit {0}

@@ -1,0 +1,23 @@
+//! The lexical grammar of the Swift subset: what a token is, and the lists of tokens that spell a text.
+#![tactic(auto)]
+
+mod comments;
+mod faults;
+mod gaps;
+mod identifiers;
+mod lexemes;
+mod lexer;
+mod marks;
+mod positions;
+mod standing;
+mod strings;
+
+pub use faults::{LexEnd, LexFault, LexWhat};
+pub use identifiers::{begins_word, is_identifier, is_keyword, is_word, is_word_byte};
+pub use lexemes::{blanks_len, is_blank, is_integer, word_len};
+pub use lexer::{is_first_on_line, tokens};
+pub use positions::Place;
+pub use swift_ast::{Token, TokenKind};
+
+#[cfg(test)]
+mod tests;

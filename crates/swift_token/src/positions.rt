@@ -1,0 +1,33 @@
+ghost use Rattle.std.specs.Prelude.{ℕ, List, ◌+◌, ◌<◌, ◌^◌, ◌++◌, ◌≤◌, length};
+ghost use Rattle.swift_token.specs.Placing.{IsPlaceBehind};
+
+/// A place in a text.
+#[derive(Clone, Copy, Debug)]
+pub struct Place {
+    /// The line, from 1.
+    pub line: u32,
+
+    /// The byte of the line, from 1.
+    pub column: u32,
+}
+
+impl Place {
+    /// The place behind bytes that begin at this one.
+    pub fn behind(self, bytes: &[u8]) -> Place
+        requires line_fits { self.line + length bytes.now < 2 ^ 32 }
+        requires column_fits { self.column + length bytes.now < 2 ^ 32 }
+        ensures { (before : List ℕ) → IsPlaceBehind self before → IsPlaceBehind result (before ++ bytes.now) }
+    {
+        let mut line = self.line;
+        let mut column = self.column;
+        for byte in bytes {
+            if *byte == b'\n' {
+                line += 1;
+                column = 1;
+            } else {
+                column += 1;
+            }
+        }
+        Place { line, column }
+    }
+}
