@@ -1,0 +1,5 @@
+pub mod Entries
+pub mod Filters
+pub mod Plain
+pub mod Sorted
+pub mod SourceLemmas

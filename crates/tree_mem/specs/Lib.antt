@@ -1,0 +1,4 @@
+pub mod MemSources
+pub mod Sink
+pub mod Sources
+pub mod Tree
