@@ -1,0 +1,9 @@
+use Rattle.std.proofs.Common.{◌≡◌, drop}
+use Rattle.serde_json.specs.Data.{no_members}
+use Rattle.serde_json.specs.View.{members_view}
+use Rattle.build_record.specs.Format.{with_files}
+use Rattle.build_record.proofs.encoding.files_value.Given as goal
+
+-- The members so far, with those of the files that are left, are all.
+abbrev pub invariant-loop-file : goal.invariant-loop-file
+invariant-loop-file l = with_files (members_view l.members.entries) (drop l.file-index l.files) ≡ with_files no_members l.files
