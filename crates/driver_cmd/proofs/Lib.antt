@@ -1,0 +1,5 @@
+pub mod WordLemmas
+pub mod ParsedLemmas
+pub mod NameLemmas
+pub mod OutcomeLemmas
+pub mod BuildLemmas

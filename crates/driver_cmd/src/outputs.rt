@@ -1,0 +1,87 @@
+ghost use Rattle.std.specs.Prelude.{◌≡◌, ◌++◌, length, map, flat_map, codes, All, IsTrue, IfOk, OnOk};
+ghost use Rattle.diag_text.specs.Line.{lines_of};
+ghost use Rattle.drv_outside.specs.Plain.{is_plain_path};
+ghost use Rattle.integer_globals.specs.declared.trees.FileTree.{FileTree};
+ghost use Rattle.driver_cmd.specs.Clean.{without_slash, object_name, errors_in, objects_of};
+
+use diag_text::lines;
+use disk_commit::File;
+use drv_outside::{Name, NoMemory};
+use integer_globals::FileTree;
+use integer_module::Outcome;
+use std::alloc::Global;
+
+/// The bytes of `.swift`.
+const ENDING_BYTES: usize = 6;
+
+fn without_slash(byte: u8) -> u8
+    ensures { result ≡ without_slash byte }
+{
+    if byte == b'/' { b'~' } else { byte }
+}
+
+// The bytes of an object's name, from its path without the ending.
+fn name_bytes(alloc: Global, stem: &[u8]) -> Result<Vec<u8>, NoMemory>
+    ensures { IfOk result (λ name. name.items ≡ map without_slash stem.now ++ codes ".o") }
+{
+    let mut name: Vec<u8> = stem.iter().map(|byte| without_slash(*byte)).collect(alloc)?;
+    name.extend_from_slice(b".o")?;
+    Ok(name)
+}
+
+/// The name of the object of the source at a path.
+#[tactic(auto, using(crate::proofs::NameLemmas::long_path))]
+pub fn object_name(alloc: Global, path: &str) -> Result<Name, NoMemory>
+    requires { IsTrue (is_plain_path path.now) }
+    ensures { IfOk result (λ name. name ≡ object_name path.now) }
+{
+    let bytes = path.as_bytes();
+    let name = name_bytes(alloc, &bytes[..bytes.len() - ENDING_BYTES])?;
+    let name = String::from_utf8(name).unwrap();
+    Ok(Name::from_string(name))
+}
+
+// Puts the errors of an outcome behind the text so far.
+fn push_errors(alloc: Global, text: &mut Vec<u8>, outcome: &Outcome) -> Result<(), NoMemory>
+    ensures { OnOk result (text.new.items ≡ text.old.items ++ lines_of (errors_in outcome.now)) }
+{
+    if let Outcome::Errors(errors) = outcome {
+        let printed = lines(alloc, errors.as_slice())?;
+        text.extend_from_slice(printed.as_slice())?;
+    }
+    Ok(())
+}
+
+/// The printed errors of outcomes, in their order.
+pub fn error_lines(alloc: Global, outcomes: &[Outcome]) -> Result<Vec<u8>, NoMemory>
+    ensures { IfOk result (λ text. text.items ≡ lines_of (flat_map errors_in outcomes.now)) }
+{
+    let mut text = Vec::new(alloc);
+    for outcome in outcomes {
+        push_errors(alloc, &mut text, outcome)?;
+    }
+    Ok(text)
+}
+
+/// The objects of files with these outcomes, in their order.
+pub fn objects(
+    alloc: Global,
+    files: &[FileTree],
+    outcomes: Vec<Outcome>,
+) -> Result<Vec<File>, NoMemory>
+    requires plain { All (λ (file : FileTree). IsTrue (is_plain_path file.path)) files.now }
+    requires each { length outcomes.items ≡ length files.now }
+    ensures { IfOk result (λ objects. objects.items ≡ objects_of files.now outcomes.items) }
+{
+    let mut objects = Vec::new(alloc);
+    let mut place = 0usize;
+    for outcome in outcomes {
+        let path = &files[place].path;
+        if let Outcome::Object(bytes) = outcome {
+            let name = object_name(alloc, path.as_str())?;
+            objects.push(File { name, bytes })?;
+        }
+        place += 1;
+    }
+    Ok(objects)
+}
