@@ -1,0 +1,91 @@
+//! The driver: builds a project folder, prints to standard output, and ends with the build's status.
+#![tactic(auto)]
+
+mod disk;
+mod folder;
+mod gate;
+mod output;
+mod walk;
+mod words;
+
+use driver_cmd::{Status, drive};
+use drv_outside::{Sink, Text};
+use folder::FolderTree;
+use gate::OpenGate;
+use output::Output;
+use std::process::ExitCode;
+use std::rt::{Env, Files};
+
+const HELP: &str = "\
+usage: driver FOLDER build -module-name MODULE
+
+Builds the Swift files below FOLDER into FOLDER/swift-build.
+
+  driver --help       prints this text
+  driver --version    prints the version
+
+Status: 0 built, 1 errors in the sources, 2 usage, 3 reading or writing failed, 4 out of memory,
+5 output failed, 6 bad output file map.
+";
+
+const VERSION: &str = "driver 0.1.0\n";
+
+// The text that an only word of the command line asks for.
+fn asked_text(words: &[Text]) -> Option<&'static str> {
+    match words {
+        [word] if word.as_slice() == b"--help".as_slice() => Some(HELP),
+        [word] if word.as_slice() == b"--version".as_slice() => Some(VERSION),
+        _ => None,
+    }
+}
+
+// Builds the folder that the first word names, as the other words say.
+fn build<R: Files + Print + AllocGlobal + Clone + Drop>(
+    rt: &R,
+    words: &[Text],
+) -> Result<Status, Status> {
+    let [folder, words @ ..] = words else {
+        return Err(Status::Usage { at: 0 });
+    };
+    let Ok(folder) = str::from_utf8(folder.as_slice()) else {
+        return Err(Status::Usage { at: 0 });
+    };
+    let folder = String::from_str(rt.alloc(), folder)?;
+    let mut tree = FolderTree::new(rt.clone()?, folder);
+    let mut out = Output::new(rt.clone()?);
+    Ok(drive(rt, words, &mut tree, &OpenGate, &mut out))
+}
+
+// Prints a text that was asked for.
+fn print<R: Print + Clone + Drop>(rt: &R, text: &str) -> Result<Status, Status> {
+    let mut out = Output::new(rt.clone()?);
+    out.put(text.as_bytes()).map_err(|_| Status::SinkFault)?;
+    Ok(Status::Done)
+}
+
+// Does what the command line asks.
+fn run<R: Files + Env + Print + AllocGlobal + Clone + Drop>(rt: &R) -> Result<Status, Status> {
+    let words = words::command_line(rt, rt.alloc())?;
+    match asked_text(&words) {
+        Some(text) => print(rt, text),
+        None => build(rt, &words),
+    }
+}
+
+// Says on standard error why there was no build. Where that can't be written, the status says it.
+fn explain(rt: &impl Eprint, status: &Status) {
+    let _ = match status {
+        Status::Done | Status::Errors => Ok(()),
+        Status::Usage { at } => eprintln!(rt; "driver: usage, word {at}"),
+        Status::TreeFault => eprintln!(rt; "driver: reading or writing failed"),
+        Status::NoMemory => eprintln!(rt; "driver: out of memory"),
+        Status::SinkFault => eprintln!(rt; "driver: output failed"),
+        Status::BadMap { .. } => eprintln!(rt; "driver: bad output file map"),
+    };
+}
+
+fn main(rt: HostRuntime) -> ExitCode {
+    let (Ok(status) | Err(status)) = run(&rt);
+    explain(&rt, &status);
+    ExitCode::from(status.number())
+}

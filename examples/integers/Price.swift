@@ -1,0 +1,2 @@
+let price = 1_200
+let shipping = 80

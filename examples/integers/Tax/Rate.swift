@@ -1,0 +1,2 @@
+let rate = 19
+let base = price + shipping

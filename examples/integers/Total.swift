@@ -1,0 +1,1 @@
+let total = base + rate
