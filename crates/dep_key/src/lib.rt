@@ -4,11 +4,22 @@
 
 mod byte_list;
 mod characters;
+mod graph;
+mod key;
+mod kind;
+mod laws;
+mod lists;
 mod no_memory;
+mod order;
 mod texts;
 
 pub use byte_list::ByteList;
 pub use characters::Characters;
+pub use graph::{FileGraph, Node, Unsorted};
+pub use key::Key;
+pub use kind::{Aspect, Kind};
+pub use laws::keys_are_ordered;
+pub use lists::{Keys, Nodes};
 pub use no_memory::NoMemory;
 pub use texts::{Name, Path, Text};
 
@@ -16,35 +27,4 @@ pub use texts::{Name, Path, Text};
 pub type FileNo = u32;
 
 #[cfg(test)]
-mod tests {
-    use super::*;
-    use std::test::Fail;
-
-    #[test]
-    fn paths_and_names_are_ordered_by_bytes(rt: HostRuntime) -> Result<(), Fail> {
-        let alloc = rt.alloc();
-        let a = Path::from_str(alloc, "a.swift")?;
-        let b = Path::from_str(alloc, "b.swift")?;
-        assert!(rt; a < b);
-        assert_eq!(rt; a.clone()?, a);
-        assert_eq!(rt; a.as_str(), "a.swift");
-        assert_eq!(rt; b.into_string().as_str(), "b.swift");
-        let upper = Name::from_str(alloc, "Z")?;
-        let lower = Name::from_str(alloc, "a")?;
-        assert!(rt; upper < lower);
-        assert_eq!(rt; upper.clone()?.into_string().as_str(), "Z");
-        Ok(())
-    }
-
-    #[test]
-    fn texts_are_bytes(rt: HostRuntime) -> Result<(), Fail> {
-        let alloc = rt.alloc();
-        let text = Text::from_slice(alloc, b"let x")?;
-        let longer = Text::from_slice(alloc, b"let x = 1")?;
-        assert!(rt; text < longer);
-        assert_eq!(rt; text.clone()?, text);
-        assert_eq!(rt; text.as_slice(), b"let x".as_slice());
-        assert_eq!(rt; text.into_vec().len(), 5);
-        Ok(())
-    }
-}
+mod tests;

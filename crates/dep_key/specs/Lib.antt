@@ -1,0 +1,4 @@
+pub mod GraphOrder
+pub mod KeyOrder
+pub mod Scans
+pub mod Sameness

@@ -1,0 +1,97 @@
+ghost use Rattle.std.specs.Prelude.{◌≡◌};
+ghost use Rattle.std.proofs.Common.{rules};
+ghost use Rattle.std.specs.Cmp.{partial_equiv_from_equiv, eq_by_cmp_equiv, partial_order_from_total};
+ghost use Rattle.std.specs.Cmp.Rules.{comparing};
+ghost use Rattle.std.specs.Ordering.{as_partial_cmp, eq_by_cmp};
+ghost use Rattle.dep_key.specs.KeyOrder.{key_order, key_order_total, has_shape};
+
+use crate::{Aspect, Kind, Name};
+use std::alloc::AllocError;
+use std::cmp::Ordering;
+
+/// What one file provides and others use: the dependency between files goes through equal keys.
+///
+/// Keys are ordered by kind, then by aspect, then by the bytes of the context, then by those of the
+/// name.
+#[derive(Debug, Drop)]
+pub struct Key {
+    pub kind: Kind,
+    pub aspect: Aspect,
+    /// The type whose member the name is, and empty outside all types.
+    pub context: Name,
+    /// The name, and empty where the key stands for the type of its context.
+    pub name: Name,
+}
+
+impl Key {
+    /// Whether the parts are filled that a key of this kind has, and the others are empty.
+    pub fn has_shape(&self) -> bool
+        ensures { result ≡ has_shape self.now }
+    {
+        let has_context = !self.context.as_str().is_empty();
+        let has_name = !self.name.as_str().is_empty();
+        match self.kind {
+            Kind::TopLevel | Kind::DynamicLookup | Kind::ExternalDepend | Kind::SourceFileProvide =>
+                !has_context && has_name,
+            Kind::Nominal | Kind::PotentialMember => has_context && !has_name,
+            Kind::Member => has_context && has_name,
+        }
+    }
+}
+
+impl Clone for Key {
+    ghost is_clone = { λ key copy. copy ≡ key };
+
+    fn clone(&self) -> Result<Key, AllocError> {
+        let context = self.context.clone()?;
+        let name = self.name.clone()?;
+        Ok(Key {
+            kind: self.kind,
+            aspect: self.aspect,
+            context,
+            name,
+        })
+    }
+}
+
+impl PartialEq for Key {
+    ghost eq = { eq_by_cmp key_order };
+
+    ghost laws = { partial_equiv_from_equiv (eq_by_cmp_equiv key_order_total) };
+
+    fn eq(&self, other: &Key) -> bool {
+        self.cmp(other).is_eq()
+    }
+}
+
+impl Eq for Key {
+    ghost laws = { eq_by_cmp_equiv key_order_total };
+}
+
+impl Ord for Key {
+    ghost cmp = { key_order };
+
+    ghost total = { key_order_total };
+
+    ghost matches_partial_cmp = { Prim.search (comparing, rules) };
+
+    ghost matches_eq = { Prim.search (comparing, rules) };
+
+    fn cmp(&self, other: &Key) -> Ordering {
+        let kind = self.kind.number().cmp(&other.kind.number());
+        let aspect = self.aspect.number().cmp(&other.aspect.number());
+        kind.then(aspect)
+            .then(self.context.cmp(&other.context))
+            .then(self.name.cmp(&other.name))
+    }
+}
+
+impl PartialOrd for Key {
+    ghost partial_cmp = { as_partial_cmp key_order };
+
+    ghost laws = { partial_order_from_total key_order_total };
+
+    fn partial_cmp(&self, other: &Key) -> Option<Ordering> {
+        Some(self.cmp(other))
+    }
+}

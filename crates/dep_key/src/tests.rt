@@ -1,0 +1,76 @@
+use super::*;
+use std::alloc::Global;
+use std::test::Fail;
+
+#[test]
+fn paths_and_names_are_ordered_by_bytes(rt: HostRuntime) -> Result<(), Fail> {
+    let alloc = rt.alloc();
+    let a = Path::from_str(alloc, "a.swift")?;
+    let b = Path::from_str(alloc, "b.swift")?;
+    assert!(rt; a < b);
+    assert_eq!(rt; a.clone()?, a);
+    assert_eq!(rt; a.as_str(), "a.swift");
+    assert_eq!(rt; b.into_string().as_str(), "b.swift");
+    let upper = Name::from_str(alloc, "Z")?;
+    let lower = Name::from_str(alloc, "a")?;
+    assert!(rt; upper < lower);
+    assert_eq!(rt; upper.clone()?.into_string().as_str(), "Z");
+    Ok(())
+}
+
+#[test]
+fn texts_are_bytes(rt: HostRuntime) -> Result<(), Fail> {
+    let alloc = rt.alloc();
+    let text = Text::from_slice(alloc, b"let x")?;
+    let longer = Text::from_slice(alloc, b"let x = 1")?;
+    assert!(rt; text < longer);
+    assert_eq!(rt; text.clone()?, text);
+    assert_eq!(rt; text.as_slice(), b"let x".as_slice());
+    assert_eq!(rt; text.into_vec().len(), 5);
+    Ok(())
+}
+
+fn key(alloc: Global, kind: Kind, name: &str) -> Result<Key, NoMemory> {
+    Ok(Key {
+        kind,
+        aspect: Aspect::Interface,
+        context: Name::from_str(alloc, "")?,
+        name: Name::from_str(alloc, name)?,
+    })
+}
+
+#[test]
+fn keys_are_ordered_by_kind_and_name(rt: HostRuntime) -> Result<(), Fail> {
+    let alloc = rt.alloc();
+    let one = key(alloc, Kind::TopLevel, "one")?;
+    let two = key(alloc, Kind::TopLevel, "two")?;
+    let file = key(alloc, Kind::SourceFileProvide, "a.swift")?;
+    assert!(rt; one < two);
+    assert!(rt; two < file);
+    assert_eq!(rt; one.clone()?, one);
+    assert!(rt; one.has_shape());
+    let none = key(alloc, Kind::TopLevel, "")?;
+    assert!(rt; !none.has_shape());
+    Ok(())
+}
+
+#[test]
+fn a_graph_is_checked(rt: HostRuntime) -> Result<(), Fail> {
+    let alloc = rt.alloc();
+    let mut uses = Vec::new(alloc);
+    uses.push(key(alloc, Kind::TopLevel, "two")?)?;
+    uses.push(key(alloc, Kind::TopLevel, "one")?)?;
+    let mut nodes = Vec::new(alloc);
+    nodes.push(Node {
+        key: key(alloc, Kind::TopLevel, "two")?,
+        print: Text::from_slice(alloc, b"")?,
+        uses: Keys::from_vec(uses),
+    })?;
+    let graph = FileGraph {
+        path: Path::from_str(alloc, "b.swift")?,
+        nodes: Nodes::from_vec(nodes),
+    };
+    assert_eq!(rt; graph.check(), Some(Unsorted { at: 0 }));
+    assert_eq!(rt; graph.clone()?, graph);
+    Ok(())
+}
