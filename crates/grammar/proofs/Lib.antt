@@ -1,0 +1,13 @@
+pub mod Basics
+pub mod Sequences
+pub mod Rows
+pub mod Options
+pub mod Choices
+pub mod Lines
+pub mod Rests
+pub mod Labels
+pub mod Shown
+pub mod Balance
+pub mod Wholes
+pub mod Cuts
+pub mod TestLemmas
