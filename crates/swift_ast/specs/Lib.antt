@@ -1,1 +1,8 @@
 pub mod Leaves
+pub mod Terminals
+pub mod Tests
+pub mod Expressions
+pub mod Statements
+pub mod Declarations
+pub mod Flattening
+pub mod Laws

@@ -1,39 +1,34 @@
-//! Tokens of the Swift subset that the driver compiles.
+//! Tokens and trees of the Swift subset that the driver compiles.
+//!
+//! There is one tree type for each rule of the grammar (`docs/LANGUAGE.md`). A tree keeps each of
+//! its tokens as a [`Leaf`], so that it borrows nothing and its tokens can be given back.
 #![tactic(auto)]
 
-/// The five kinds of tokens.
-#[derive(Clone, Copy, Debug, PartialEq, Eq)]
-pub enum TokenKind {
-    /// A name: a letter or `_`, then letters, digits and `_`, and no keyword.
-    Identifier,
+mod declarations;
+mod expressions;
+mod flattening;
+mod laws;
+mod no_memory;
+mod statements;
+mod terminals;
+mod text;
+mod tokens;
 
-    /// A reserved word, `_` among them.
-    Keyword,
+pub use declarations::{
+    Access, Alias, Computed, Decl, Extension, ExtensionMember, FileTree, Func, Global, NamedDecl,
+    Param, Stored, StoredValue, Struct, StructMember,
+};
+pub use expressions::{
+    And, Arg, Args, Atom, Cmp, CmpOperator, Expr, Postfix, PostfixPart, Prefix, Product,
+    ProductOperator, Sum, SumOperator,
+};
+pub use flattening::flatten;
+pub use laws::grammar_laws;
+pub use no_memory::NoMemory;
+pub use statements::{BindingSpecifier, Block, Call, ElseIf, If, Stmt, Target, TypeName};
+pub use terminals::Terminal;
+pub use text::Text;
+pub use tokens::{Leaf, Token, TokenKind};
 
-    /// A decimal integer literal.
-    Integer,
-
-    /// A string literal with its quotes and escapes as they are spelled.
-    StringText,
-
-    /// A bracket, a separator or an operator.
-    Mark,
-}
-
-/// A token of a source text: what is spelled, and where its first byte stands.
-#[derive(Clone, Copy, Debug)]
-pub struct Token<'a> {
-    pub kind: TokenKind,
-
-    /// The bytes as they are spelled, a slice of the source.
-    pub text: &'a str,
-
-    /// Whether no token stands before it on its line.
-    pub first_on_line: bool,
-
-    /// The line, from 1; a line ends at a line feed.
-    pub line: u32,
-
-    /// The byte of the line, from 1.
-    pub column: u32,
-}
+#[cfg(test)]
+mod tests;

@@ -1,0 +1,17 @@
+pub mod TestFacts
+pub mod ExpressionShows
+pub mod ExpressionLaws
+pub mod ExpressionLevels
+pub mod ExpressionExits
+pub mod StatementShows
+pub mod StatementLaws
+pub mod StatementLevels
+pub mod StatementExits
+pub mod DeclarationShows
+pub mod DeclarationLaws
+pub mod DeclarationLevels
+pub mod DeclarationExits
+pub mod AssignLemmas
+pub mod TokenExits
+pub mod FlatteningLemmas
+pub mod FlatteningSteps
