@@ -1,0 +1,24 @@
+use Rattle.std.proofs.Common.{◌∷◌}
+use Rattle.grammar.specs.Forms.{token}
+use Rattle.swift_ast.specs.declared.terminals.Terminal.TheVariants as T
+use Rattle.swift_ast.specs.Tests.{on, is}
+use Rattle.swift_ast.specs.Statements.{type_form}
+use Rattle.swift_ast.specs.Declarations.{alias_form}
+use Rattle.swift_ast.proofs.DeclarationExits as exits
+use Rattle.swift_parser.proofs.Exits.{passes}
+use Rattle.swift_parser.proofs.declarations.alias_behind.Goals as goal
+
+pub returns-in_err-name-clause-reads : goal.returns-in_err-name-clause-reads
+returns-in_err-name-clause-reads c = passes (token (on (is T.Identifier))) alias_form c.from_residual.result c.in_err-name.field-0.0 c.args.tokens.now c.expect.new.self (c.args.keyword ∷ c.args.tokens.now) c.expect.new.self c.from_residual.ensures.1 c.in_err-name.ensures.reads
+    (λ r. exits.alias_no_name c.args.keyword c.requires.keyword r)
+
+pub returns-in_err-assign-clause-reads : goal.returns-in_err-assign-clause-reads
+returns-in_err-assign-clause-reads c = passes (token (on (is T.Assign))) alias_form c.from_residual-in_err-assign.result c.in_err-assign.field-0.0 c.expect.new.self c.expect-2.new.self (c.args.keyword ∷ c.args.tokens.now) c.expect-2.new.self c.from_residual-in_err-assign.ensures.1 c.in_err-assign.ensures.reads
+    (λ r. exits.alias_no_assign c.args.keyword c.requires.keyword c.in_ok-name.ensures.reads r)
+
+pub returns-in_err-type_name-clause-reads : goal.returns-in_err-type_name-clause-reads
+returns-in_err-type_name-clause-reads c = passes type_form alias_form c.from_residual-in_err-type_name.result c.in_err-type_name.field-0.0 c.expect-2.new.self c.type_name.new.tokens (c.args.keyword ∷ c.args.tokens.now) c.type_name.new.tokens c.from_residual-in_err-type_name.ensures.1 c.in_err-type_name.ensures.reads
+    (λ r. exits.alias_no_type c.args.keyword c.requires.keyword c.in_ok-name.ensures.reads c.in_ok-assign.ensures.reads r)
+
+pub returns-clause-reads : goal.returns-clause-reads
+returns-clause-reads c = exits.alias_done c.args.keyword c.requires.keyword c.in_ok-name.ensures.reads c.in_ok-assign.ensures.reads c.in_ok-type_name.ensures.reads

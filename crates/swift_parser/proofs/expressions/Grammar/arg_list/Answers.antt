@@ -1,0 +1,30 @@
+use Rattle.std.proofs.Common.{sym, subst, arith}
+use Rattle.swift_ast.specs.declared.terminals.Terminal.TheVariants as T
+use Rattle.swift_ast.specs.Tests.{on, is}
+use Rattle.swift_ast.specs.Expressions.{arg_form}
+use Rattle.swift_ast.proofs.ExpressionShows as shows
+use Rattle.swift_ast.proofs.ExpressionExits as exits
+use Rattle.swift_parser.proofs.Exits.{passes, uneaten, ate}
+use Rattle.swift_parser.proofs.expressions.Grammar.arg_list.Goals as goal
+
+pub returns-in_err-first-clause-reads : goal.returns-in_err-first-clause-reads
+returns-in_err-first-clause-reads g c = passes arg_form shows.arg_list_form c.from_residual.result c.in_err-first.field-0.0 c.args.tokens.now c.arg.new.tokens c.args.tokens.now c.arg.new.tokens c.from_residual.ensures.1 c.in_err-first.ensures.reads (λ r. exits.arg_list_first r)
+
+pub returns-in_err-next-clause-reads : goal.returns-in_err-next-clause-reads
+returns-in_err-next-clause-reads g c =
+    let u = ate (on (is T.Comma)) c.in_ok-comma.field-0 c.in-Some.comma c.loop-more.tokens c.eat.new.self c.in_ok-comma.ensures.eaten c.in-Some.is in
+    passes arg_form shows.arg_list_form c.from_residual-in_err-next.result c.in_err-next.field-0.0 c.eat.new.self c.arg-in-Some.new.tokens c.args.tokens.now c.arg-in-Some.new.tokens c.from_residual-in_err-next.ensures.1 c.in_err-next.ensures.reads
+    (λ r. exits.arg_list_later (c.in_ok-first.first, c.loop-more.more) c.loop-more.invariant.0 u r)
+
+pub loop-more-preserved : goal.loop-more-preserved
+loop-more-preserved g c =
+    let u = ate (on (is T.Comma)) c.in_ok-comma.field-0 c.in-Some.comma c.loop-more.tokens c.eat.new.self c.in_ok-comma.ensures.eaten c.in-Some.is in (
+      subst (λ ps. exits.ArgListSo (c.in_ok-first.first, ps) c.args.tokens.now c.arg-in-Some.new.tokens) (sym c.in_ok-push.ensures.ok)
+          (exits.arg_list_pushed (c.in_ok-first.first, c.loop-more.more) c.loop-more.invariant.0 u c.in_ok-next.ensures.reads),
+      omega (arith, c.loop-more.invariant.1, c.in_ok-next.ensures.shrinks, c.in_ok-comma.ensures.shrinks),
+    )
+
+pub returns-clause-reads : goal.returns-clause-reads
+returns-clause-reads g c =
+    let e = uneaten (on (is T.Comma)) c.in_ok-comma.field-0 c.loop-more.tokens c.eat.new.self c.in_ok-comma.ensures.eaten c.in_default.is in
+    exits.arg_list_done (c.in_ok-first.first, c.loop-more.more) (subst (λ ts. exits.ArgListSo (c.in_ok-first.first, c.loop-more.more) c.args.tokens.now ts) e.0 c.loop-more.invariant.0) e.1

@@ -1,0 +1,361 @@
+ghost use Rattle.std.specs.Prelude.{◌≡◌, ◌≤◌, ◌<◌, ◌∷◌, true, length, IfOk};
+ghost use Rattle.swift_ast.specs.declared.terminals.Terminal.TheVariants as T;
+ghost use Rattle.swift_ast.specs.Tests.{on, is, is_cmp_operator, is_sum_operator, is_product_operator, is_simple_atom, begins_part, opens_args};
+ghost use Rattle.swift_ast.specs.Expressions.{cmp_operator_form, sum_operator_form, product_operator_form, expr_form, and_form, cmp_form, sum_form, product_form, prefix_form, postfix_form, part_form, args_form, arg_form, atom_form, arg_list_rule};
+ghost use Rattle.swift_parser.specs.Reading.{Reads, ReadsIf, TakesIf, Shortens};
+ghost use Rattle.swift_parser.specs.Nests.{Nests};
+
+use crate::cursor::Tokens;
+use crate::stop::Stop;
+use crate::tests_of_tokens::Test;
+use sqlite_items::{Boxed, Items};
+use std::alloc::{AllocError, Global};
+use swift_ast::{
+    And, Arg, Args, Atom, Cmp, CmpOperator, Expr, Leaf, Postfix, PostfixPart, Prefix, Product,
+    ProductOperator, Sum, SumOperator, Terminal,
+};
+
+fn cmp_operator(alloc: Global, tokens: &mut Tokens<'_>) -> Result<Option<CmpOperator>, AllocError>
+    ensures takes { IfOk result (λ found. TakesIf (on is_cmp_operator) cmp_operator_form found tokens.old tokens.new) }
+    ensures shrinks { length tokens.new ≤ length tokens.old }
+    ensures shortens { IfOk result (λ found. Shortens found tokens.old tokens.new) }
+{
+    if let Some(t) = tokens.eat(alloc, Test::Is(Terminal::Equal))? {
+        return Ok(Some(CmpOperator::Equal(t)));
+    }
+    if let Some(t) = tokens.eat(alloc, Test::Is(Terminal::NotEqual))? {
+        return Ok(Some(CmpOperator::NotEqual(t)));
+    }
+    if let Some(t) = tokens.eat(alloc, Test::Is(Terminal::Less))? {
+        return Ok(Some(CmpOperator::Less(t)));
+    }
+    if let Some(t) = tokens.eat(alloc, Test::Is(Terminal::LessOrEqual))? {
+        return Ok(Some(CmpOperator::LessOrEqual(t)));
+    }
+    if let Some(t) = tokens.eat(alloc, Test::Is(Terminal::Greater))? {
+        return Ok(Some(CmpOperator::Greater(t)));
+    }
+    if let Some(t) = tokens.eat(alloc, Test::Is(Terminal::GreaterOrEqual))? {
+        return Ok(Some(CmpOperator::GreaterOrEqual(t)));
+    }
+    Ok(None)
+}
+
+fn sum_operator(alloc: Global, tokens: &mut Tokens<'_>) -> Result<Option<SumOperator>, AllocError>
+    ensures takes { IfOk result (λ found. TakesIf (on is_sum_operator) sum_operator_form found tokens.old tokens.new) }
+    ensures shrinks { length tokens.new ≤ length tokens.old }
+    ensures shortens { IfOk result (λ found. Shortens found tokens.old tokens.new) }
+{
+    if let Some(t) = tokens.eat(alloc, Test::Is(Terminal::Plus))? {
+        return Ok(Some(SumOperator::Plus(t)));
+    }
+    if let Some(t) = tokens.eat(alloc, Test::Is(Terminal::Minus))? {
+        return Ok(Some(SumOperator::Minus(t)));
+    }
+    Ok(None)
+}
+
+fn product_operator(
+    alloc: Global,
+    tokens: &mut Tokens<'_>,
+) -> Result<Option<ProductOperator>, AllocError>
+    ensures takes { IfOk result (λ found. TakesIf (on is_product_operator) product_operator_form found tokens.old tokens.new) }
+    ensures shrinks { length tokens.new ≤ length tokens.old }
+    ensures shortens { IfOk result (λ found. Shortens found tokens.old tokens.new) }
+{
+    if let Some(t) = tokens.eat(alloc, Test::Is(Terminal::Times))? {
+        return Ok(Some(ProductOperator::Times(t)));
+    }
+    if let Some(t) = tokens.eat(alloc, Test::Is(Terminal::Divide))? {
+        return Ok(Some(ProductOperator::Divide(t)));
+    }
+    if let Some(t) = tokens.eat(alloc, Test::Is(Terminal::Remainder))? {
+        return Ok(Some(ProductOperator::Remainder(t)));
+    }
+    Ok(None)
+}
+
+/// An atom of one token, if one stands next.
+fn simple_atom(alloc: Global, tokens: &mut Tokens<'_>) -> Result<Option<Atom>, AllocError>
+    ensures takes { IfOk result (λ found. TakesIf (on is_simple_atom) atom_form found tokens.old tokens.new) }
+    ensures shrinks { length tokens.new ≤ length tokens.old }
+    ensures shortens { IfOk result (λ found. Shortens found tokens.old tokens.new) }
+{
+    if let Some(t) = tokens.eat(alloc, Test::Is(Terminal::Identifier))? {
+        return Ok(Some(Atom::Name(t)));
+    }
+    if let Some(t) = tokens.eat(alloc, Test::Is(Terminal::Integer))? {
+        return Ok(Some(Atom::Integer(t)));
+    }
+    if let Some(t) = tokens.eat(alloc, Test::Is(Terminal::StringText))? {
+        return Ok(Some(Atom::StringText(t)));
+    }
+    if let Some(t) = tokens.eat(alloc, Test::Is(Terminal::True))? {
+        return Ok(Some(Atom::True(t)));
+    }
+    if let Some(t) = tokens.eat(alloc, Test::Is(Terminal::False))? {
+        return Ok(Some(Atom::False(t)));
+    }
+    if let Some(t) = tokens.eat(alloc, Test::Is(Terminal::SelfValue))? {
+        return Ok(Some(Atom::SelfValue(t)));
+    }
+    Ok(None)
+}
+
+/// The rules of expressions, which take the reader of expressions in brackets as a parameter, so that
+/// each is proved by itself.
+#[derive(Clone, Copy)]
+struct Grammar<F> {
+    alloc: Global,
+
+    /// No fewer than the tokens that are left.
+    limit: usize,
+    expr: F,
+}
+
+impl<F: Fn(Global, &mut Tokens<'_>, usize) -> Result<Expr, Stop>> Grammar<F> {
+    /// An expression behind a bracket.
+    fn inner(&self, tokens: &mut Tokens<'_>) -> Result<Expr, Stop>
+        requires nests { Nests self.now.limit (F.pre self.now.expr) (F.post self.now.expr) }
+        requires few { length tokens.old < self.now.limit }
+        ensures reads { Reads expr_form result tokens.old tokens.new }
+        ensures shrinks { length tokens.new ≤ length tokens.old }
+    {
+        (self.expr)(self.alloc, tokens, self.limit - 1)
+    }
+
+    fn level(&self, tokens: &mut Tokens<'_>) -> Result<Expr, Stop>
+        requires nests { Nests self.now.limit (F.pre self.now.expr) (F.post self.now.expr) }
+        requires few { length tokens.old ≤ self.now.limit }
+        ensures reads { Reads expr_form result tokens.old tokens.new }
+        ensures shrinks { length tokens.new ≤ length tokens.old }
+    {
+        let first = self.and(tokens)?;
+        let mut more = Items::new(self.alloc);
+        while let Some(operator) = tokens.eat(self.alloc, Test::Is(Terminal::Or))? {
+            let operand = self.and(tokens)?;
+            more.push((operator, operand))?;
+        }
+        Ok(Expr { first, more })
+    }
+
+    fn and(&self, tokens: &mut Tokens<'_>) -> Result<And, Stop>
+        requires nests { Nests self.now.limit (F.pre self.now.expr) (F.post self.now.expr) }
+        requires few { length tokens.old ≤ self.now.limit }
+        ensures reads { Reads and_form result tokens.old tokens.new }
+        ensures shrinks { length tokens.new ≤ length tokens.old }
+    {
+        let first = self.cmp(tokens)?;
+        let mut more = Items::new(self.alloc);
+        while let Some(operator) = tokens.eat(self.alloc, Test::Is(Terminal::And))? {
+            let operand = self.cmp(tokens)?;
+            more.push((operator, operand))?;
+        }
+        Ok(And { first, more })
+    }
+
+    fn cmp(&self, tokens: &mut Tokens<'_>) -> Result<Cmp, Stop>
+        requires nests { Nests self.now.limit (F.pre self.now.expr) (F.post self.now.expr) }
+        requires few { length tokens.old ≤ self.now.limit }
+        ensures reads { Reads cmp_form result tokens.old tokens.new }
+        ensures shrinks { length tokens.new ≤ length tokens.old }
+    {
+        let left = self.sum(tokens)?;
+        let Some(operator) = cmp_operator(self.alloc, tokens)? else {
+            return Ok(Cmp { left, right: None });
+        };
+        let operand = self.sum(tokens)?;
+        Ok(Cmp {
+            left,
+            right: Some((operator, operand)),
+        })
+    }
+
+    fn sum(&self, tokens: &mut Tokens<'_>) -> Result<Sum, Stop>
+        requires nests { Nests self.now.limit (F.pre self.now.expr) (F.post self.now.expr) }
+        requires few { length tokens.old ≤ self.now.limit }
+        ensures reads { Reads sum_form result tokens.old tokens.new }
+        ensures shrinks { length tokens.new ≤ length tokens.old }
+    {
+        let first = self.product(tokens)?;
+        let mut more = Items::new(self.alloc);
+        while let Some(operator) = sum_operator(self.alloc, tokens)? {
+            let operand = self.product(tokens)?;
+            more.push((operator, operand))?;
+        }
+        Ok(Sum { first, more })
+    }
+
+    fn product(&self, tokens: &mut Tokens<'_>) -> Result<Product, Stop>
+        requires nests { Nests self.now.limit (F.pre self.now.expr) (F.post self.now.expr) }
+        requires few { length tokens.old ≤ self.now.limit }
+        ensures reads { Reads product_form result tokens.old tokens.new }
+        ensures shrinks { length tokens.new ≤ length tokens.old }
+    {
+        let first = self.prefix(tokens)?;
+        let mut more = Items::new(self.alloc);
+        while let Some(operator) = product_operator(self.alloc, tokens)? {
+            let operand = self.prefix(tokens)?;
+            more.push((operator, operand))?;
+        }
+        Ok(Product { first, more })
+    }
+
+    fn prefix(&self, tokens: &mut Tokens<'_>) -> Result<Prefix, Stop>
+        requires nests { Nests self.now.limit (F.pre self.now.expr) (F.post self.now.expr) }
+        requires few { length tokens.old ≤ self.now.limit }
+        ensures reads { Reads prefix_form result tokens.old tokens.new }
+        ensures shrinks { length tokens.new ≤ length tokens.old }
+    {
+        let operator = tokens.eat(self.alloc, Test::PrefixOperator)?;
+        let operand = self.postfix(tokens)?;
+        Ok(Prefix {
+            operator,
+            postfix: operand,
+        })
+    }
+
+    fn postfix(&self, tokens: &mut Tokens<'_>) -> Result<Postfix, Stop>
+        requires nests { Nests self.now.limit (F.pre self.now.expr) (F.post self.now.expr) }
+        requires few { length tokens.old ≤ self.now.limit }
+        ensures reads { Reads postfix_form result tokens.old tokens.new }
+        ensures shrinks { length tokens.new ≤ length tokens.old }
+    {
+        let front = self.atom(tokens)?;
+        let mut parts = Items::new(self.alloc);
+        while let Some(behind) = self.part(tokens)? {
+            parts.push(behind)?;
+        }
+        Ok(Postfix { atom: front, parts })
+    }
+
+    fn part(&self, tokens: &mut Tokens<'_>) -> Result<Option<PostfixPart>, Stop>
+        requires nests { Nests self.now.limit (F.pre self.now.expr) (F.post self.now.expr) }
+        requires few { length tokens.old ≤ self.now.limit }
+        ensures reads { ReadsIf (on begins_part) part_form result tokens.old tokens.new }
+        ensures shrinks { length tokens.new ≤ length tokens.old }
+        ensures shortens { IfOk result (λ found. Shortens found tokens.old tokens.new) }
+    {
+        if let Some(dot) = tokens.eat(self.alloc, Test::Is(Terminal::Dot))? {
+            let name = tokens.expect(self.alloc, Test::Is(Terminal::Identifier))?;
+            return Ok(Some(PostfixPart::Member(dot, name)));
+        }
+        if let Some(opening) = tokens.eat(self.alloc, Test::OpensArgs)? {
+            let args = self.args_behind(tokens, opening)?;
+            return Ok(Some(PostfixPart::Call(args)));
+        }
+        Ok(None)
+    }
+
+    fn args_behind(&self, tokens: &mut Tokens<'_>, opening: Leaf) -> Result<Args, Stop>
+        requires nests { Nests self.now.limit (F.pre self.now.expr) (F.post self.now.expr) }
+        requires few { length tokens.old < self.now.limit }
+        requires opening { on opens_args opening ≡ true }
+        ensures reads { Reads args_form result (opening ∷ tokens.old) tokens.new }
+        ensures shrinks { length tokens.new ≤ length tokens.old }
+    {
+        if let Some(closing) = tokens.eat(self.alloc, Test::Is(Terminal::RightParenthesis))? {
+            return Ok(Args {
+                opening,
+                list: None,
+                closing,
+            });
+        }
+        let list = self.arg_list(tokens)?;
+        let closing = tokens.expect(self.alloc, Test::Is(Terminal::RightParenthesis))?;
+        Ok(Args {
+            opening,
+            list: Some(list),
+            closing,
+        })
+    }
+
+    fn arg_list(&self, tokens: &mut Tokens<'_>) -> Result<(Arg, Items<(Leaf, Arg)>), Stop>
+        requires nests { Nests self.now.limit (F.pre self.now.expr) (F.post self.now.expr) }
+        requires few { length tokens.old < self.now.limit }
+        ensures reads { Reads (arg_list_rule arg_form) result tokens.old tokens.new }
+        ensures shrinks { length tokens.new ≤ length tokens.old }
+    {
+        let first = self.arg(tokens)?;
+        let mut more = Items::new(self.alloc);
+        while let Some(comma) = tokens.eat(self.alloc, Test::Is(Terminal::Comma))? {
+            let next = self.arg(tokens)?;
+            more.push((comma, next))?;
+        }
+        Ok((first, more))
+    }
+
+    fn arg(&self, tokens: &mut Tokens<'_>) -> Result<Arg, Stop>
+        requires nests { Nests self.now.limit (F.pre self.now.expr) (F.post self.now.expr) }
+        requires few { length tokens.old < self.now.limit }
+        ensures reads { Reads arg_form result tokens.old tokens.new }
+        ensures shrinks { length tokens.new ≤ length tokens.old }
+    {
+        let label = tokens.eat_label(self.alloc)?;
+        let value = self.inner(tokens)?;
+        Ok(Arg { label, value })
+    }
+
+    fn atom(&self, tokens: &mut Tokens<'_>) -> Result<Atom, Stop>
+        requires nests { Nests self.now.limit (F.pre self.now.expr) (F.post self.now.expr) }
+        requires few { length tokens.old ≤ self.now.limit }
+        ensures reads { Reads atom_form result tokens.old tokens.new }
+        ensures shrinks { length tokens.new ≤ length tokens.old }
+    {
+        if let Some(simple) = simple_atom(self.alloc, tokens)? {
+            return Ok(simple);
+        }
+        let opening = tokens.expect(self.alloc, Test::Is(Terminal::LeftParenthesis))?;
+        self.parentheses_behind(tokens, opening)
+    }
+
+    fn parentheses_behind(&self, tokens: &mut Tokens<'_>, opening: Leaf) -> Result<Atom, Stop>
+        requires nests { Nests self.now.limit (F.pre self.now.expr) (F.post self.now.expr) }
+        requires few { length tokens.old < self.now.limit }
+        requires opening { on (is T.LeftParenthesis) opening ≡ true }
+        ensures reads { Reads atom_form result (opening ∷ tokens.old) tokens.new }
+        ensures shrinks { length tokens.new ≤ length tokens.old }
+    {
+        let inner = self.inner(tokens)?;
+        let inner = Boxed::new(self.alloc, inner)?;
+        let closing = tokens.expect(self.alloc, Test::Is(Terminal::RightParenthesis))?;
+        Ok(Atom::Parentheses(opening, inner, closing))
+    }
+}
+
+/// An expression, where no more tokens are left than the limit.
+fn limited(alloc: Global, tokens: &mut Tokens<'_>, limit: usize) -> Result<Expr, Stop>
+    requires { length tokens.old ≤ limit }
+    ensures reads { Reads expr_form result tokens.old tokens.new }
+    ensures shrinks { length tokens.new ≤ length tokens.old }
+{
+    Grammar {
+        alloc,
+        limit,
+        expr: limited,
+    }
+    .level(tokens)
+}
+
+/// An expression.
+pub fn expr(alloc: Global, tokens: &mut Tokens<'_>) -> Result<Expr, Stop>
+    ensures reads { Reads expr_form result tokens.old tokens.new }
+    ensures shrinks { length tokens.new ≤ length tokens.old }
+{
+    let limit = tokens.len();
+    limited(alloc, tokens, limit)
+}
+
+/// A postfix.
+pub fn postfix(alloc: Global, tokens: &mut Tokens<'_>) -> Result<Postfix, Stop>
+    ensures reads { Reads postfix_form result tokens.old tokens.new }
+    ensures shrinks { length tokens.new ≤ length tokens.old }
+{
+    let limit = tokens.len();
+    Grammar {
+        alloc,
+        limit,
+        expr: limited,
+    }
+    .postfix(tokens)
+}

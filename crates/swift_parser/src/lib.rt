@@ -1,0 +1,22 @@
+//! The parser of the Swift subset that the driver compiles.
+//!
+//! [`parse_file`] gives the one tree of a source file, or its first fault. The grammar stands in
+//! `docs/LANGUAGE.md`, and as definitions in the crate `swift_ast`.
+#![tactic(auto)]
+
+mod cursor;
+mod declarations;
+mod expressions;
+mod faults;
+mod file;
+mod statements;
+mod stop;
+mod tests_of_tokens;
+
+pub use faults::ParseFault;
+pub use file::parse_file;
+pub use swift_ast::{FileTree, NoMemory, Text};
+pub use swift_token::{LexFault, LexWhat};
+
+#[cfg(test)]
+mod tests;

@@ -1,0 +1,138 @@
+ghost use Rattle.std.specs.Prelude.{◌≡◌};
+ghost use Rattle.swift_ast.specs.Tests.{one_of, stmt_beginnings, decl_beginnings, struct_member_beginnings, extension_member_beginnings};
+ghost use Rattle.swift_parser.specs.Reading.{test_of};
+
+use swift_ast::Terminal;
+
+/// What a rule asks of a token.
+#[derive(Clone, Copy, Debug)]
+pub enum Test {
+    /// The terminal.
+    Is(Terminal),
+
+    /// An operator before its operand.
+    PrefixOperator,
+
+    /// The bracket of arguments, on the line of what is called.
+    OpensArgs,
+
+    /// The first token of a statement.
+    BeginsStmt,
+
+    /// The same, on a line of its own.
+    BeginsNextStmt,
+
+    /// What stands behind `return` as the beginning of its value.
+    BeginsValue,
+
+    /// A parameter's first word.
+    Label,
+
+    /// The first token of a declaration on a line of its own.
+    BeginsNextDecl,
+
+    /// The first token of a struct's member.
+    BeginsStructMember,
+
+    /// The same, on a line of its own.
+    BeginsNextStructMember,
+
+    /// The first token of an extension's member.
+    BeginsExtensionMember,
+
+    /// The same, on a line of its own.
+    BeginsNextExtensionMember,
+}
+
+/// Whether a statement begins so.
+fn begins_stmt(terminal: Terminal) -> bool
+    ensures { result ≡ one_of stmt_beginnings terminal }
+{
+    matches!(
+        terminal,
+        Terminal::Let
+            | Terminal::Var
+            | Terminal::Return
+            | Terminal::If
+            | Terminal::While
+            | Terminal::Integer
+            | Terminal::StringText
+            | Terminal::True
+            | Terminal::False
+            | Terminal::Identifier
+            | Terminal::SelfValue
+            | Terminal::LeftParenthesis
+    )
+}
+
+/// Whether a declaration begins so.
+fn begins_decl(terminal: Terminal) -> bool
+    ensures { result ≡ one_of decl_beginnings terminal }
+{
+    matches!(
+        terminal,
+        Terminal::Private
+            | Terminal::Fileprivate
+            | Terminal::Internal
+            | Terminal::Public
+            | Terminal::Let
+            | Terminal::Var
+            | Terminal::Func
+            | Terminal::Struct
+            | Terminal::Typealias
+            | Terminal::Extension
+    )
+}
+
+/// Whether a member of a struct begins so.
+fn begins_struct_member(terminal: Terminal) -> bool
+    ensures { result ≡ one_of struct_member_beginnings terminal }
+{
+    matches!(
+        terminal,
+        Terminal::Private
+            | Terminal::Fileprivate
+            | Terminal::Internal
+            | Terminal::Public
+            | Terminal::Let
+            | Terminal::Var
+            | Terminal::Func
+    )
+}
+
+/// Whether a member of an extension begins so.
+fn begins_extension_member(terminal: Terminal) -> bool
+    ensures { result ≡ one_of extension_member_beginnings terminal }
+{
+    matches!(
+        terminal,
+        Terminal::Private
+            | Terminal::Fileprivate
+            | Terminal::Internal
+            | Terminal::Public
+            | Terminal::Var
+            | Terminal::Func
+    )
+}
+
+impl Test {
+    /// Whether a token of the terminal is of the test, first on its line or not.
+    pub fn holds(self, terminal: Terminal, first_on_line: bool) -> bool
+        ensures { result ≡ test_of self terminal first_on_line }
+    {
+        match self {
+            Test::Is(wanted) => terminal == wanted,
+            Test::PrefixOperator => matches!(terminal, Terminal::Minus | Terminal::Not),
+            Test::OpensArgs => terminal == Terminal::LeftParenthesis && !first_on_line,
+            Test::BeginsStmt => begins_stmt(terminal),
+            Test::BeginsNextStmt => begins_stmt(terminal) && first_on_line,
+            Test::BeginsValue => terminal != Terminal::RightBrace && !first_on_line,
+            Test::Label => matches!(terminal, Terminal::Identifier | Terminal::Wildcard),
+            Test::BeginsNextDecl => begins_decl(terminal) && first_on_line,
+            Test::BeginsStructMember => begins_struct_member(terminal),
+            Test::BeginsNextStructMember => begins_struct_member(terminal) && first_on_line,
+            Test::BeginsExtensionMember => begins_extension_member(terminal),
+            Test::BeginsNextExtensionMember => begins_extension_member(terminal) && first_on_line,
+        }
+    }
+}
