@@ -11,10 +11,10 @@ use Rattle.bitstream.proofs.BitLaws.{length-bits, value-bits, bits-value, value-
 use Rattle.bitstream.specs.Writing.{vbr_bits}
 use Rattle.bitstream.proofs.NumberLaws.{vbr_bits-is}
 
-take-field : (w n : ℕ) (rest : List Bool) → take w (bits w n ++ rest) ≡ bits w n
+pub take-field : (w n : ℕ) (rest : List Bool) → take w (bits w n ++ rest) ≡ bits w n
 take-field w n rest = ap (λ k. take k (bits w n ++ rest)) (sym (length-bits w n)) ∙ take-append_seam (bits w n) rest
 
-drop-field : (w n : ℕ) (rest : List Bool) → drop w (bits w n ++ rest) ≡ rest
+pub drop-field : (w n : ℕ) (rest : List Bool) → drop w (bits w n ++ rest) ≡ rest
 drop-field w n rest = ap (λ k. drop k (bits w n ++ rest)) (sym (length-bits w n)) ∙ drop-append_seam (bits w n) rest
 
 -- one field at the front of the bits
@@ -73,7 +73,7 @@ vbr-again w n at front rest pos is =
 abbrev pub Takes : ℕ → List Bool → List ℕ → Type 0
 Takes w bs ds = (0 < length ds) × AllBelow (2 ^ (w - 1)) ds × (bs ≡ spell w ds ++ drop (w * length ds) bs)
 
-field-back : (w : ℕ) (bs : List Bool) → w ≤ length bs → bits w (value (take w bs)) ≡ take w bs
+pub field-back : (w : ℕ) (bs : List Bool) → w ≤ length bs → bits w (value (take w bs)) ≡ take w bs
 field-back w bs room = ap (λ k. bits k (value (take w bs))) (sym (length-take-le w bs room)) ∙ bits-value (take w bs)
 
 one-taken : (w : ℕ) (bs : List Bool) → w ≤ length bs → value (take w bs) < 2 ^ (w - 1) → Takes w bs (value (take w bs) ∷ [])

@@ -8,10 +8,10 @@ use Rattle.bitstream.specs.Fields.{place}
 use Rattle.bitstream.specs.Stream.{bytes_at, whole_bytes}
 use Rattle.bitstream.proofs.BitLaws.{byte-value, byte-length, length-bits_of, drop-bytes}
 
-take-byte : (b : ℕ) (rest : List Bool) → take 8 (byte_bits b ++ rest) ≡ byte_bits b
+pub take-byte : (b : ℕ) (rest : List Bool) → take 8 (byte_bits b ++ rest) ≡ byte_bits b
 take-byte b rest = ap (λ n. take n (byte_bits b ++ rest)) (sym (byte-length b)) ∙ take-append_seam (byte_bits b) rest
 
-drop-byte : (b : ℕ) (rest : List Bool) → drop 8 (byte_bits b ++ rest) ≡ rest
+pub drop-byte : (b : ℕ) (rest : List Bool) → drop 8 (byte_bits b ++ rest) ≡ rest
 drop-byte b rest = ap (λ n. drop n (byte_bits b ++ rest)) (sym (byte-length b)) ∙ drop-append_seam (byte_bits b) rest
 
 bytes-back : (n : ℕ) (bytes : List ℕ) → n ≤ length bytes → ((i : ℕ) → get_or bytes i 0 < 256) → whole_bytes n (bits_of bytes) ≡ take n bytes

@@ -3,9 +3,13 @@ pub mod Buffer
 pub mod Cursor
 pub mod Entries
 pub mod Fields
+pub mod Items
 pub mod Known
+pub mod Reader
 pub mod Reading
 pub mod Spelling
+pub mod Stands
 pub mod Stream
 pub mod Writer
 pub mod Writing
+pub mod Written

@@ -7,11 +7,10 @@ use Rattle.bitstream.specs.declared.item.AbbrevOp.TheVariants.{Vbr}
 use Rattle.bitstream.specs.declared.item.Item.{Item}
 use Rattle.bitstream.specs.declared.item.Item.TheVariants.{Enter, Leave, Rec, End}
 use Rattle.bitstream.specs.declared.cursor.Opened.{Opened}
-use Rattle.bitstream.specs.declared.reader.BitReader.{BitReader}
-use Rattle.bitstream.specs.declared.reader.Known.{Known}
-use Rattle.bitstream.specs.declared.reader.Scope.{Scope}
+use Rattle.bitstream.specs.declared.entry_reader.EntryReader.{EntryReader}
+use Rattle.bitstream.specs.declared.entry_reader.Known.{Known}
+use Rattle.bitstream.specs.declared.entry_reader.Scope.{Scope}
 use Rattle.bitstream.specs.Fields.{Place, place, fixed_at, vbr_at, ◌>>=◌}
-use Rattle.bitstream.specs.Cursor.{here}
 use Rattle.bitstream.specs.Stream.{align_at, opened_at, definition_at, numbers_at, values_at, slice_seen}
 use Rattle.bitstream.specs.Known.{known_for}
 
@@ -41,7 +40,7 @@ pub record Context : Type 0 where
   pub known : List Known
   pub named : Option ℕ
 
-abbrev pub context : BitReader → Context
+abbrev pub context : EntryReader → Context
 context r = record { scope = r.scope; outer = r.outer.items; abbrevs = r.abbrevs.items; known = r.known.items; named = r.named }
 
 -- outside all blocks ids have two bits
@@ -56,9 +55,6 @@ pub data Reading : Type 0 where
 abbrev pub by_fault : Option BitFault → Place → Context → ℕ → Reading
 by_fault None p c i = Reads p c i
 by_fault (Some e) p c i = Stuck e i
-
-abbrev pub reading : BitReader → Reading
-reading r = by_fault r.fault (here r.cursor) (context r) r.item
 
 abbrev pub first_bit : List ℕ → Reading
 first_bit bytes = Reads (place bytes 0) outside 0

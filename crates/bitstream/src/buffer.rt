@@ -62,6 +62,7 @@ fn overwrite_in(bytes: &mut Vec<u8>, at: usize, number: u32)
 
 impl BitBuffer {
     ghost use Rattle.bitstream.specs.Buffer.{bits_in};
+    ghost use Rattle.bitstream.specs.Written.{OperandFits, OperandsFit};
 
     pub fn new(alloc: Global) -> BitBuffer
         ensures { bits_in result ≡ [] }
@@ -166,6 +167,7 @@ impl BitBuffer {
     /// The bits of one operand of a definition.
     pub fn push_op(&mut self, op: AbbrevOp) -> Result<(), NoMemory>
         ensures ok { OnOk result (bits_in self.new ≡ bits_in self.old ++ op_bits op) }
+        ensures fits { OnOk result (OperandFits op) }
         ensures kept { Grows self.old.bytes.items self.new.bytes.items }
     {
         match op {
@@ -195,6 +197,7 @@ impl BitBuffer {
 
     pub fn push_ops(&mut self, ops: &[AbbrevOp]) -> Result<(), NoMemory>
         ensures ok { OnOk result (bits_in self.new ≡ bits_in self.old ++ flat_map op_bits ops.now) }
+        ensures fit { OnOk result (OperandsFit ops.now) }
         ensures kept { Grows self.old.bytes.items self.new.bytes.items }
     {
         for &op in ops {

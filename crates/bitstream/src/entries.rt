@@ -3,6 +3,7 @@
 ghost use Rattle.std.specs.Prelude.{◌≡◌, ◌≤◌, ◌*◌, ◌+◌, ◌%◌, ◌^◌, ◌<◌, length, OnOk, OnErr, IfOk};
 ghost use Rattle.bitstream.specs.Buffer.{bits_in};
 ghost use Rattle.bitstream.specs.Writing.{Grows};
+ghost use Rattle.bitstream.specs.Written.{OperandsFit};
 ghost use Rattle.bitstream.specs.Entries.{end_bits, enter_bits, definition_bits, record_bits, blob_bits};
 
 use crate::buffer::BitBuffer;
@@ -50,6 +51,8 @@ impl BitBuffer {
         requires low { 2 ≤ id_width }
         requires high { id_width ≤ 32 }
         ensures ok { OnOk result (bits_in self.new ≡ definition_bits id_width ops.now (bits_in self.old)) }
+        ensures fit { OnOk result (OperandsFit ops.now) }
+        ensures count { OnOk result (length ops.now < 2 ^ 64) }
         ensures kept { Grows self.old.bytes.items self.new.bytes.items }
     {
         self.push_bits(2, id_width)?;
@@ -62,6 +65,7 @@ impl BitBuffer {
         requires low { 2 ≤ id_width }
         requires high { id_width ≤ 32 }
         ensures ok { OnOk result (bits_in self.new ≡ record_bits id_width code ops.now (bits_in self.old)) }
+        ensures count { OnOk result (length ops.now < 2 ^ 64) }
         ensures kept { Grows self.old.bytes.items self.new.bytes.items }
     {
         self.push_bits(3, id_width)?;
@@ -76,6 +80,7 @@ impl BitBuffer {
         requires width { id_width ≤ 32 }
         requires id { id < 2 ^ id_width }
         ensures ok { OnOk result (bits_in self.new ≡ blob_bits id_width id blob.now (bits_in self.old)) }
+        ensures count { OnOk result (length blob.now < 2 ^ 64) }
         ensures kept { Grows self.old.bytes.items self.new.bytes.items }
     {
         self.push_bits(id, id_width)?;

@@ -1,10 +1,14 @@
-//! Laws of numbers in bits. Each function's contract is the law; it does nothing when it runs.
+//! Laws of numbers in bits and of what bytes stand for. Each function's contract is the law; it does
+//! nothing when it runs.
 
-ghost use Rattle.std.specs.Prelude.{◌≡◌, ◌≤◌, ◌*◌, ◌+◌, ◌^◌, ◌<◌, ℕ, Bool, List, Ok, length};
+ghost use Rattle.std.specs.Prelude.{◌≡◌, ◌≤◌, ◌*◌, ◌+◌, ◌^◌, ◌<◌, ℕ, Bool, List, Ok, None, length};
 ghost use Rattle.bitstream.specs.Bits.{bits};
 ghost use Rattle.bitstream.specs.Fields.{Place, fixed_at, vbr_at, Reads, Stands};
 ghost use Rattle.bitstream.specs.Spelling.{IsVbr};
 ghost use Rattle.bitstream.specs.Writing.{vbr_bits};
+ghost use Rattle.bitstream.specs.Reading.{Seen};
+ghost use Rattle.bitstream.specs.Items.{items_in};
+ghost use Rattle.bitstream.specs.Stands.{StandFor};
 
 /// What a writer's `fixed` wrote is what a reader's `fixed` reads, whatever follows.
 pub fn fixed_is_read_back()
@@ -20,4 +24,19 @@ pub fn vbr_is_read_back()
 pub fn vbr_is_read_where_it_stands()
     ensures read { (w n : ℕ) (front : List Bool) → 0 < w → IsVbr w n front → Reads (vbr_at w) n front }
     ensures stands { (w n : ℕ) (p behind : Place) → 0 < w → vbr_at w p ≡ Ok (n, behind) → Stands (IsVbr w) p n behind }
+{}
+
+/// Where a reader of bytes comes to their end, the bytes stand for the items that it gave.
+pub fn what_is_read_is_written()
+    ensures { (bytes : List ℕ) (items : List (ℕ × Seen)) → items_in bytes ≡ (items, None) → StandFor bytes items }
+{}
+
+/// Where bytes stand for items, a reader gives these and comes to the end, with no fault.
+pub fn what_is_written_is_read()
+    ensures { (bytes : List ℕ) (items : List (ℕ × Seen)) → StandFor bytes items → items_in bytes ≡ (items, None) }
+{}
+
+/// Bytes stand for one list of items at most.
+pub fn bytes_stand_for_one_list()
+    ensures { (bytes : List ℕ) (items others : List (ℕ × Seen)) → StandFor bytes items → StandFor bytes others → items ≡ others }
 {}

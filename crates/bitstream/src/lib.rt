@@ -7,6 +7,7 @@ mod buffer;
 mod cursor;
 mod definition;
 mod entries;
+mod entry_reader;
 mod field;
 mod item;
 mod laws;
@@ -19,7 +20,10 @@ mod text;
 mod writer;
 
 pub use item::{AbbrevOp, BitFault, Item};
-pub use laws::{fixed_is_read_back, vbr_is_read_back, vbr_is_read_where_it_stands};
+pub use laws::{
+    bytes_stand_for_one_list, fixed_is_read_back, vbr_is_read_back, vbr_is_read_where_it_stands,
+    what_is_read_is_written, what_is_written_is_read,
+};
 pub use no_memory::NoMemory;
 pub use operands::Operands;
 pub use reader::BitReader;

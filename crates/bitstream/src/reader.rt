@@ -1,100 +1,44 @@
-ghost use Rattle.std.specs.Prelude.{◌≡◌, ◌≤◌, ◌*◌, ◌<◌, ◌++◌, All, length, OnOk};
-ghost use Rattle.bitstream.specs.Fields.{fixed_at, vbr_at};
-ghost use Rattle.bitstream.specs.Stream.{slice_seen};
-ghost use Rattle.bitstream.specs.Known.{known_for};
+ghost use Rattle.bitstream.specs.Cursor.{here};
+ghost use Rattle.std.specs.Prelude.{◌≡◌, None};
+ghost use Rattle.bitstream.specs.Reading.{context};
+ghost use Rattle.bitstream.specs.Items.{IsSound};
 
-use crate::cursor::Cursor;
-use crate::definition::Definition;
-use crate::{AbbrevOp, BitFault, Item, NoMemory, Operands};
+use crate::entry_reader::EntryReader;
+use crate::{BitFault, Item};
 use std::alloc::Global;
-
-/// A block that is open: the bit of its ENTER, its number, the width of its ids, how many
-/// abbreviations the outer blocks have, the bit behind its length field, and its length in words.
-#[derive(Clone, Copy)]
-pub struct Scope {
-    entered: u128,
-    block: u32,
-    width: u32,
-    first: usize,
-    begins: u128,
-    said: u32,
-}
-
-/// A definition of BLOCKINFO, and the block that it is for.
-#[derive(Drop)]
-pub struct Known {
-    block: u32,
-    definition: Definition,
-}
-
-/// Puts what BLOCKINFO defined for a block behind other abbreviations.
-fn copy_known(
-    alloc: Global,
-    known: &[Known],
-    block: u32,
-    abbrevs: &mut Vec<Definition>,
-) -> Result<(), NoMemory>
-    ensures { OnOk result (abbrevs.new.items ≡ abbrevs.old.items ++ known_for block known.now) }
-{
-    for one in known {
-        if one.block == block {
-            match one.definition.copy(alloc) {
-                Ok(copy) => {
-                    if let Err(_) = abbrevs.push(copy) {
-                        return Err(NoMemory);
-                    }
-                }
-                Err(_) => return Err(NoMemory),
-            }
-        }
-    }
-    Ok(())
-}
 
 /// Reads a bitstream from the first bit of its bytes on.
 ///
 /// Bits go from the least significant of each byte upwards, as in the LLVM Bitstream Container
 /// Format (<https://llvm.org/docs/BitCodeFormat.html>). After a fault every call answers the same
 /// one.
-// Outside all blocks `outer` is empty, and `scope` has the width 2.
 #[derive(Drop)]
 pub struct BitReader<'b> {
-    alloc: Global,
-    cursor: Cursor<'b>,
-    scope: Scope,
-    outer: Vec<Scope>,
-    abbrevs: Vec<Definition>,
-    known: Vec<Known>,
-    named: Option<u32>,
+    entries: EntryReader<'b>,
     item: u128,
     fault: Option<BitFault>,
-    ghost width: { scope.width ≤ 32 },
-    ghost widths: { All (λ s. s.width ≤ 32) outer.items },
+    ghost sound: { fault ≡ None → IsSound (context entries) (here entries.cursor) },
 }
 
 impl<'b> BitReader<'b> {
-    ghost use Rattle.bitstream.specs.Reading.{reading, first_bit, answer_of, at_end, item_of, context, left_at, EntryGives, ItemGives, NextGives, end_at, enter_at, define_at, judged, abbreviated_at, plain_at, entry_at, entry_by, next_at};
-    ghost use Rattle.bitstream.specs.Cursor.{here};
+    ghost use Rattle.std.specs.Prelude.{◌≢◌, ◌≤◌, ◌*◌, List, [], ◌∷◌, length, Some, Err, OnOk, IfOk, IfErr, All, ℕ};
+    ghost use Rattle.bitstream.specs.declared.item.BitFault.{BitFault};
+    ghost use Rattle.bitstream.specs.declared.item.BitFault.TheVariants.{NoMemory};
+    ghost use Rattle.bitstream.specs.Fields.{fixed_at, vbr_at};
+    ghost use Rattle.bitstream.specs.Reading.{seen, Ends, Stuck, first_bit, answer_of, item_of, NextGives};
+    ghost use Rattle.bitstream.specs.Reader.{reading};
+    ghost use Rattle.bitstream.specs.Items.{items_of, items_in, total_bits, operand_count};
 
     /// A reader at the first bit, with no fault.
     pub fn new(alloc: Global, bytes: &'b [u8]) -> BitReader<'b>
-        ensures { reading result ≡ first_bit bytes.now }
+        ensures place { reading result ≡ first_bit bytes.now }
+        ensures items { items_of (reading result) ≡ items_in bytes.now }
+        ensures total { total_bits (reading result) ≡ 8 * length bytes.now }
+        ensures fault { (items_in bytes.now).1 ≢ Some NoMemory }
+        ensures few_operands { All (λ item. operand_count item.1 ≤ 8 * length bytes.now) (items_in bytes.now).0 }
     {
         BitReader {
-            alloc,
-            cursor: Cursor::new(bytes),
-            scope: Scope {
-                entered: 0,
-                block: 1,
-                width: 2,
-                first: 0,
-                begins: 0,
-                said: 0,
-            },
-            outer: Vec::new(alloc),
-            abbrevs: Vec::new(alloc),
-            known: Vec::new(alloc),
-            named: None,
+            entries: EntryReader::new(alloc, bytes),
             item: 0,
             fault: None,
         }
@@ -117,7 +61,7 @@ impl<'b> BitReader<'b> {
         if let Some(fault) = self.fault {
             return Err(fault);
         }
-        match self.cursor.fixed(width) {
+        match self.entries.fixed(width) {
             Ok(number) => Ok(number),
             Err(fault) => {
                 self.fault = Some(fault);
@@ -138,7 +82,7 @@ impl<'b> BitReader<'b> {
         if let Some(fault) = self.fault {
             return Err(fault);
         }
-        match self.cursor.vbr(width) {
+        match self.entries.vbr(width) {
             Ok(number) => Ok(number),
             Err(fault) => {
                 self.fault = Some(fault);
@@ -151,12 +95,28 @@ impl<'b> BitReader<'b> {
     ///
     /// Want of memory is answered as `NoMemory`; every other fault is the first one of the input.
     pub fn next(&mut self) -> Result<Item<'b>, BitFault>
+        ensures shown { IfOk result (λ item. seen item ≢ Ends → items_of (reading self.old) ≡ ((item_of (reading self.new), seen item) ∷ (items_of (reading self.new)).0, (items_of (reading self.new)).1)) }
+        ensures ended { IfOk result (λ item. seen item ≡ Ends → items_of (reading self.old) ≡ ([], None)) }
+        ensures still_ended { IfOk result (λ item. seen item ≡ Ends → items_of (reading self.new) ≡ ([], None)) }
+        ensures end_position { IfOk result (λ item. seen item ≡ Ends → item_of (reading self.new) ≡ total_bits (reading self.new)) }
+        ensures few_operands { IfOk result (λ item. operand_count (seen item) ≤ total_bits (reading self.new)) }
+        ensures total { OnOk result (total_bits (reading self.new) ≡ total_bits (reading self.old)) }
+        ensures fault { IfErr result (λ e. e ≢ NoMemory → items_of (reading self.old) ≡ ([], Some e)) }
+        ensures stuck { IfErr result (λ e. reading self.new ≡ Stuck e (item_of (reading self.old))) }
+        ensures no_more { IfErr result (λ e. items_of (reading self.new) ≡ ([], Some e)) }
+        ensures again { (e : BitFault) (i : ℕ) → reading self.old ≡ Stuck e i → result ≡ Err e }
+        ensures place { NextGives (reading self.old) result (reading self.new) }
+    {
+        self.step()
+    }
+
+    fn step(&mut self) -> Result<Item<'b>, BitFault>
         ensures { NextGives (reading self.old) result (reading self.new) }
     {
         if let Some(fault) = self.fault {
             return Err(fault);
         }
-        match self.read_item() {
+        match self.entries.read_item() {
             Ok((at, item)) => {
                 self.item = at;
                 Ok(item)
@@ -166,254 +126,5 @@ impl<'b> BitReader<'b> {
                 Err(fault)
             }
         }
-    }
-
-    fn is_at_end(&self) -> bool
-        ensures { result ≡ at_end (context self.now) (here self.now.cursor) }
-    {
-        self.outer.is_empty() && self.cursor.left() == 0
-    }
-
-    /// The next item and its first bit.
-    fn read_item(&mut self) -> Result<(u128, Item<'b>), BitFault>
-        ensures read { ItemGives (context self.new) (here self.new.cursor) result (next_at (left_at (here self.old.cursor)) (context self.old) (here self.old.cursor)) }
-        ensures item { self.new.item ≡ self.old.item }
-        ensures fault { self.new.fault ≡ self.old.fault }
-    {
-        let mut entries = self.cursor.left() + 1;
-        'each: while entries > 0 {
-            entries -= 1;
-            let at = self.cursor.at();
-            if self.is_at_end() {
-                return Ok((at, Item::End));
-            }
-            match self.entry() {
-                Ok(Some(item)) => return Ok((at, item)),
-                Ok(None) => {}
-                Err(fault) => return Err(fault),
-            }
-        }
-        // Each entry takes bits, so one of those that are left shows an item or has a fault.
-        Err(BitFault::NoMemory)
-    }
-
-    fn entry(&mut self) -> Result<Option<Item<'b>>, BitFault>
-        ensures read { EntryGives (context self.new) (here self.new.cursor) result (entry_at (context self.old) (here self.old.cursor)) }
-        ensures item { self.new.item ≡ self.old.item }
-        ensures fault { self.new.fault ≡ self.old.fault }
-    {
-        let at = self.cursor.at();
-        let id = match self.cursor.fixed(self.scope.width) {
-            Ok(id) => id,
-            Err(fault) => return Err(fault),
-        };
-        self.entry_behind(at, id)
-    }
-
-    fn entry_behind(&mut self, at: u128, id: u64) -> Result<Option<Item<'b>>, BitFault>
-        ensures read { EntryGives (context self.new) (here self.new.cursor) result (entry_by at id (context self.old) (here self.old.cursor)) }
-        ensures item { self.new.item ≡ self.old.item }
-        ensures fault { self.new.fault ≡ self.old.fault }
-    {
-        if id == 1 {
-            return self.enter(at);
-        }
-        if self.outer.is_empty() {
-            return Err(BitFault::OutsideBlock { at });
-        }
-        if id == 0 {
-            return self.end();
-        }
-        if id == 2 {
-            return self.define(at);
-        }
-        if id == 3 {
-            return self.plain(at);
-        }
-        self.abbreviated(at, id)
-    }
-
-    /// The end of the innermost block, behind its id.
-    fn end(&mut self) -> Result<Option<Item<'b>>, BitFault>
-        ensures read { EntryGives (context self.new) (here self.new.cursor) result (end_at (context self.old) (here self.old.cursor)) }
-        ensures item { self.new.item ≡ self.old.item }
-        ensures fault { self.new.fault ≡ self.old.fault }
-    {
-        let scope = self.scope;
-        if let Err(fault) = self.cursor.align() {
-            return Err(fault);
-        }
-        let words = self.cursor.at().saturating_sub(scope.begins) / 32 % 4294967296;
-        if words != scope.said as u128 {
-            return Err(BitFault::BadBlockLength {
-                at: scope.entered,
-                said: scope.said as u64,
-            });
-        }
-        self.abbrevs.truncate(scope.first);
-        if let Some(outer) = self.outer.pop() {
-            self.scope = outer;
-        }
-        if scope.block == 0 {
-            return Ok(None);
-        }
-        Ok(Some(Item::Leave))
-    }
-
-    /// The beginning of a block at the bit `at`, behind its id.
-    fn enter(&mut self, at: u128) -> Result<Option<Item<'b>>, BitFault>
-        ensures read { EntryGives (context self.new) (here self.new.cursor) result (enter_at at (context self.old) (here self.old.cursor)) }
-        ensures item { self.new.item ≡ self.old.item }
-        ensures fault { self.new.fault ≡ self.old.fault }
-    {
-        if self.scope.block == 0 {
-            return Err(BitFault::BadOperands { at });
-        }
-        if self.outer.len() >= 32 {
-            return Err(BitFault::TooDeep { at });
-        }
-        let opened = match self.cursor.opened(at) {
-            Ok(opened) => opened,
-            Err(fault) => return Err(fault),
-        };
-        let first = self.abbrevs.len();
-        if let Err(_) = copy_known(
-            self.alloc,
-            self.known.as_slice(),
-            opened.block,
-            &mut self.abbrevs,
-        ) {
-            return Err(BitFault::NoMemory);
-        }
-        if let Err(_) = self.outer.push(self.scope) {
-            return Err(BitFault::NoMemory);
-        }
-        self.scope = Scope {
-            entered: at,
-            block: opened.block,
-            width: opened.width,
-            first,
-            begins: opened.begins,
-            said: opened.said,
-        };
-        self.named = None;
-        if opened.block == 0 {
-            return Ok(None);
-        }
-        Ok(Some(Item::Enter {
-            block: opened.block,
-        }))
-    }
-
-    /// A definition at the bit `at`, behind its id.
-    fn define(&mut self, at: u128) -> Result<Option<Item<'b>>, BitFault>
-        ensures read { EntryGives (context self.new) (here self.new.cursor) result (define_at at (context self.old) (here self.old.cursor)) }
-        ensures item { self.new.item ≡ self.old.item }
-        ensures fault { self.new.fault ≡ self.old.fault }
-    {
-        if self.scope.block == 0 {
-            let block = match self.named {
-                Some(block) => block,
-                None => return Err(BitFault::BadOperands { at }),
-            };
-            let ops = match self.cursor.definition(self.alloc, at) {
-                Ok(ops) => ops,
-                Err(fault) => return Err(fault),
-            };
-            let known = Known {
-                block,
-                definition: Definition::from_vec(ops),
-            };
-            if let Err(_) = self.known.push(known) {
-                return Err(BitFault::NoMemory);
-            }
-            return Ok(None);
-        }
-        let ops = match self.cursor.definition(self.alloc, at) {
-            Ok(ops) => ops,
-            Err(fault) => return Err(fault),
-        };
-        if let Err(_) = self.abbrevs.push(Definition::from_vec(ops)) {
-            return Err(BitFault::NoMemory);
-        }
-        Ok(None)
-    }
-
-    /// A record without an abbreviation at the bit `at`, behind its id.
-    fn plain(&mut self, at: u128) -> Result<Option<Item<'b>>, BitFault>
-        ensures read { EntryGives (context self.new) (here self.new.cursor) result (plain_at at (context self.old) (here self.old.cursor)) }
-        ensures item { self.new.item ≡ self.old.item }
-        ensures fault { self.new.fault ≡ self.old.fault }
-    {
-        let code = match self.cursor.vbr(6) {
-            Ok(code) => code,
-            Err(fault) => return Err(fault),
-        };
-        let count = match self.cursor.vbr(6) {
-            Ok(count) => count,
-            Err(fault) => return Err(fault),
-        };
-        let mut numbers = Vec::new(self.alloc);
-        if let Err(fault) = self.cursor.numbers(count, AbbrevOp::Vbr(6), &mut numbers) {
-            return Err(fault);
-        }
-        self.record(at, code, numbers, None)
-    }
-
-    /// A record at the bit `at` by the abbreviation that has the id.
-    fn abbreviated(&mut self, at: u128, id: u64) -> Result<Option<Item<'b>>, BitFault>
-        requires { 4 ≤ id }
-        ensures read { EntryGives (context self.new) (here self.new.cursor) result (abbreviated_at at id (context self.old) (here self.old.cursor)) }
-        ensures item { self.new.item ≡ self.old.item }
-        ensures fault { self.new.fault ≡ self.old.fault }
-    {
-        let place = self.scope.first as u128 + (id - 4) as u128;
-        if place >= self.abbrevs.len() as u128 {
-            return Err(BitFault::UnknownAbbrev { at, id });
-        }
-        let mut numbers = Vec::new(self.alloc);
-        let ops = self.abbrevs[place as usize].as_slice();
-        let blob = match self.cursor.values(ops, &mut numbers) {
-            Ok(blob) => blob,
-            Err(fault) => return Err(fault),
-        };
-        if numbers.is_empty() {
-            return self.record(at, 0, numbers, blob);
-        }
-        let code = numbers.remove(0);
-        self.record(at, code, numbers, blob)
-    }
-
-    /// What a record at the bit `at` is: an item, or in BLOCKINFO the name of a block.
-    fn record(
-        &mut self,
-        at: u128,
-        code: u64,
-        numbers: Vec<u64>,
-        blob: Option<&'b [u8]>,
-    ) -> Result<Option<Item<'b>>, BitFault>
-        ensures read { EntryGives (context self.new) (here self.new.cursor) result (judged at code numbers.items (slice_seen blob.entry) (context self.old) (here self.old.cursor)) }
-        ensures item { self.new.item ≡ self.old.item }
-        ensures fault { self.new.fault ≡ self.old.fault }
-    {
-        if self.scope.block != 0 {
-            return Ok(Some(Item::Rec {
-                code,
-                ops: Operands::from_vec(numbers),
-                blob,
-            }));
-        }
-        if code != 1 {
-            return Ok(None);
-        }
-        if numbers.is_empty() {
-            return Err(BitFault::BadOperands { at });
-        }
-        let block = numbers[0];
-        if block >= 4294967296 {
-            return Err(BitFault::BadOperands { at });
-        }
-        self.named = Some(block as u32);
-        Ok(None)
     }
 }

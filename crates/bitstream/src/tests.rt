@@ -308,6 +308,233 @@ fn a_blob_is_read(rt: HostRuntime) -> Result<(), Fail> {
     Ok(())
 }
 
+#[test]
+fn more_faults_are_told_at_their_places(rt: HostRuntime) -> Result<(), Fail> {
+    let alloc = rt.alloc();
+    // nothing
+    assert_eq!(rt; first_fault(alloc, b""), None);
+    // a definition outside
+    assert_eq!(rt;
+        first_fault(alloc, b"\x02"),
+        Some(BitFault::OutsideBlock { at: 0 })
+    );
+    // width 0
+    assert_eq!(rt;
+        first_fault(alloc, b"\x21\x00"),
+        Some(BitFault::BadOperands { at: 0 })
+    );
+    // no alignment
+    assert_eq!(rt;
+        first_fault(alloc, b"\x21\x10"),
+        Some(BitFault::Short { at: 14 })
+    );
+    // no code
+    assert_eq!(rt;
+        first_fault(alloc, b"\x21\x10\x00\x00\x00\x00\x00\x00\x03"),
+        Some(BitFault::Short { at: 68 })
+    );
+    // no last group of a count
+    assert_eq!(rt;
+        first_fault(alloc, b"\x21\x10\x00\x00\x00\x00\x00\x00\x13\x80"),
+        Some(BitFault::Short { at: 80 })
+    );
+    // operands missing
+    assert_eq!(rt;
+        first_fault(alloc, b"\x21\x10\x00\x00\x00\x00\x00\x00\x13\x0c\x07"),
+        Some(BitFault::Short { at: 86 })
+    );
+    // the end in a block
+    assert_eq!(rt;
+        first_fault(alloc, b"\x21\x10\x00\x00\x00\x00\x00\x00"),
+        Some(BitFault::Short { at: 64 })
+    );
+    // a code of 65 bits
+    assert_eq!(rt;
+        first_fault(
+            alloc,
+            b"\x21\x10\x00\x00\x00\x00\x00\x00\x03\x82\x20\x08\x82\x20\x08\x82\x20\x08\x01"
+        ),
+        Some(BitFault::WideNumber { at: 68 })
+    );
+    // a literal of 65 bits
+    assert_eq!(rt;
+        first_fault(
+            alloc,
+            b"\x21\x10\x00\x00\x00\x00\x00\x00\x12\x16\x02\x02\x02\x02\x02\x02\x02\x02\x0a\x00"
+        ),
+        Some(BitFault::WideNumber { at: 74 })
+    );
+    // an element of vbr 0
+    assert_eq!(rt;
+        first_fault(alloc, b"\x21\x10\x00\x00\x00\x00\x00\x00\x32\x06\x18\x01"),
+        Some(BitFault::BadOperands { at: 64 })
+    );
+    // an array of arrays
+    assert_eq!(rt;
+        first_fault(alloc, b"\x21\x10\x00\x00\x00\x00\x00\x00\x32\x06\x98\x01"),
+        Some(BitFault::BadOperands { at: 64 })
+    );
+    Ok(())
+}
+
+#[test]
+fn faults_of_operands_are_told_at_their_places(rt: HostRuntime) -> Result<(), Fail> {
+    let alloc = rt.alloc();
+    // an array of blobs
+    assert_eq!(rt;
+        first_fault(alloc, b"\x21\x10\x00\x00\x00\x00\x00\x00\x32\x06\x98\x02"),
+        Some(BitFault::BadOperands { at: 64 })
+    );
+    // an array before two operands
+    assert_eq!(rt;
+        first_fault(alloc, b"\x21\x10\x00\x00\x00\x00\x00\x00\x42\x06\x18"),
+        Some(BitFault::BadOperands { at: 64 })
+    );
+    // the second of one abbreviation
+    assert_eq!(rt;
+        first_fault(alloc, b"\x21\x10\x00\x00\x00\x00\x00\x00\x12\x06\x14"),
+        Some(BitFault::UnknownAbbrev { at: 82, id: 5 })
+    );
+    // an array of characters that is cut
+    assert_eq!(rt;
+        first_fault(
+            alloc,
+            b"\x21\x10\x00\x00\x00\x00\x00\x00\x32\x06\x18\xd2\x00\x00"
+        ),
+        Some(BitFault::Short { at: 112 })
+    );
+    // no alignment behind a blob
+    assert_eq!(rt;
+        first_fault(
+            alloc,
+            b"\x21\x10\x00\x00\x00\x00\x00\x00\x22\x16\x28\x05\x61"
+        ),
+        Some(BitFault::Short { at: 104 })
+    );
+    // a block with a word more than said
+    assert_eq!(rt;
+        first_fault(alloc, b"\x21\x10\x00\x00\x00\x00\x00\x00\x00\x00\x00\x00"),
+        Some(BitFault::BadBlockLength { at: 0, said: 0 })
+    );
+    // setbid of a number too large
+    assert_eq!(rt;
+        first_fault(
+            alloc,
+            b"\x01\x10\x00\x00\x00\x00\x00\x00\x13\x04\x20\x08\x82\x20\x48\x00"
+        ),
+        Some(BitFault::BadOperands { at: 64 })
+    );
+    // another record in blockinfo
+    assert_eq!(rt;
+        first_fault(alloc, b"\x01\x10\x00\x00\x01\x00\x00\x00\x93\x00\x00\x00"),
+        None
+    );
+    // an empty blockinfo, and an empty block
+    assert_eq!(rt;
+        first_fault(
+            alloc,
+            b"\x01\x10\x00\x00\x01\x00\x00\x00\x00\x00\x00\x00\x21\x10\x00\x00\x01\x00\x00\x00\x00\x00\x00\x00"
+        ),
+        None
+    );
+    // a setbid that is left behind
+    assert_eq!(rt;
+        first_fault(
+            alloc,
+            b"\x01\x10\x00\x00\x02\x00\x00\x00\x13\x04\x88\x84\x07\x00\x00\x00\x01\x10\x00\x00\x00\x00\x00\x00\x02"
+        ),
+        Some(BitFault::BadOperands { at: 192 })
+    );
+    // alignment bits that are set
+    assert_eq!(rt;
+        first_fault(alloc, b"\x21\xd0\xff\xff\x01\x00\x00\x00\xf0\xff\xff\xff"),
+        None
+    );
+    // width 2
+    assert_eq!(rt;
+        first_fault(alloc, b"\x21\x08\x00\x00\x01\x00\x00\x00\x00\x00\x00\x00"),
+        None
+    );
+    Ok(())
+}
+
+/// The first record of a bitstream that begins with a block.
+fn first_record(alloc: Global, bytes: &[u8]) -> Option<(u64, Operands)> {
+    let mut reader = BitReader::new(alloc, bytes);
+    match reader.next() {
+        Ok(Item::Enter { block: 8 }) => {}
+        _ => return None,
+    }
+    match reader.next() {
+        Ok(
+            Item::Rec {
+                code,
+                ops,
+                blob: None,
+            },
+        ) => Some((code, ops)),
+        _ => None,
+    }
+}
+
+#[test]
+fn records_are_read(rt: HostRuntime) -> Result<(), Fail> {
+    let alloc = rt.alloc();
+    // width 32
+    let Some((code, ops)) = first_record(
+        alloc,
+        b"\x21\x20\x01\x00\x03\x00\x00\x00\x03\x00\x00\x00\x85\x10\xa0\x01\x00\x00\x00\x00",
+    ) else {
+        return Err(Fail::new("a record"));
+    };
+    assert_eq!(rt; code, 5);
+    assert_eq!(rt; ops.as_slice(), [1, 40].as_slice());
+    // surplus groups of zeros
+    let Some((code, ops)) = first_record(alloc, b"\x21\x10\x00\x00\x01\x00\x00\x00\x13\x82\x00\x00")
+    else {
+        return Err(Fail::new("a record"));
+    };
+    assert_eq!(rt; code, 1);
+    assert_eq!(rt; ops.as_slice().len(), 0);
+    // a literal and a field of 64 bits
+    let Some((code, ops)) = first_record(
+        alloc,
+        b"\x21\x10\x00\x00\x06\x00\x00\x00\x22\xfe\xff\xff\xff\xff\xff\xff\xff\xff\x07\x08\x24\xf4\xff\xff\xff\xff\xff\xff\xff\x0f\x00\x00",
+    ) else {
+        return Err(Fail::new("a record"));
+    };
+    assert_eq!(rt; code, 18446744073709551615);
+    assert_eq!(rt; ops.as_slice(), [18446744073709551615].as_slice());
+    // widths 0 and 32
+    let Some((code, ops)) = first_record(
+        alloc,
+        b"\x21\x10\x00\x00\x04\x00\x00\x00\x42\x64\x08\x20\x40\x50\x90\x01\x00\x00\x00\x03\x00\x00\x00\x00",
+    ) else {
+        return Err(Fail::new("a record"));
+    };
+    assert_eq!(rt; code, 6);
+    assert_eq!(rt; ops.as_slice(), [0, 0, 2147483648].as_slice());
+    // an array of characters
+    let Some((code, ops)) = first_record(
+        alloc,
+        b"\x21\x10\x00\x00\x03\x00\x00\x00\x32\x0a\x18\x92\x01\x64\xda\xdc\xff\x00\x00\x00",
+    ) else {
+        return Err(Fail::new("a record"));
+    };
+    assert_eq!(rt; code, 2);
+    assert_eq!(rt; ops.as_slice(), [97, 122, 65, 90, 57, 95].as_slice());
+    // an array of numbers in groups
+    let Some((code, ops)) = first_record(
+        alloc,
+        b"\x21\x10\x00\x00\x02\x00\x00\x00\x32\x0a\x18\x19\x12\xc2\xe0\x03",
+    ) else {
+        return Err(Fail::new("a record"));
+    };
+    assert_eq!(rt; code, 2);
+    assert_eq!(rt; ops.as_slice(), [33, 31].as_slice());
+    Ok(())
+}
+
 /// 33 blocks in one another, but for as many of the outer ones: each has two words before the next
 /// one, and one word behind it.
 fn nested(alloc: Global, without: u8) -> Result<Vec<u8>, AllocError> {

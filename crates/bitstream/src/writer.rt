@@ -1,4 +1,4 @@
-ghost use Rattle.std.specs.Prelude.{◌≡◌, ◌≤◌, ◌*◌, ◌+◌, ◌%◌, ◌^◌, ◌<◌, [], All, length, OnOk, OnErr, IfOk, IsTrue};
+ghost use Rattle.std.specs.Prelude.{◌≡◌, ◌≤◌, ◌*◌, ◌+◌, ◌%◌, ◌^◌, ◌<◌, ◌++◌, ◌∷◌, [], List, ℕ, Some, None, All, length, OnOk, OnErr, IfOk, IsTrue};
 ghost use Rattle.bitstream.specs.Bits.{bits, bits_of};
 ghost use Rattle.bitstream.specs.Writing.{vbr_bits};
 
@@ -37,10 +37,15 @@ pub struct BitWriter {
 
 impl BitWriter {
     ghost use Rattle.bitstream.specs.Writer.{writing, nothing_written, with_bits, entered, Leaves, next_id, defined, recorded, with_blob, IsBlobId, is_definition};
+    ghost use Rattle.bitstream.specs.Reading.{Seen, Enters, Leaves as LeavesBlock, Record};
+    ghost use Rattle.bitstream.specs.Stands.{StandFor};
+    ghost use Rattle.bitstream.specs.Items.{items_in};
+    ghost use Rattle.bitstream.specs.Written.{HasWritten, IsBlobCode};
 
     /// A writer with no bits.
     pub fn new(alloc: Global) -> BitWriter
-        ensures { writing result ≡ nothing_written }
+        ensures bits { writing result ≡ nothing_written }
+        ensures wrote { HasWritten [] (writing result) }
     {
         BitWriter {
             alloc,
@@ -87,6 +92,7 @@ impl BitWriter {
         requires low { 2 ≤ width }
         requires high { width ≤ 32 }
         ensures ok { OnOk result (writing self.new ≡ entered block width (writing self.old)) }
+        ensures wrote { OnOk result ((items : List (ℕ × Seen)) → HasWritten items (writing self.old) → HasWritten (items ++ (length (writing self.old).bits, Enters block) ∷ []) (writing self.new)) }
         ensures err { OnErr result (writing self.new ≡ writing self.old) }
     {
         let mark = self.buffer.mark();
@@ -115,6 +121,7 @@ impl BitWriter {
     pub fn leave(&mut self) -> Result<(), NoMemory>
         requires { 0 < length (writing self.old).blocks }
         ensures ok { OnOk result (Leaves (writing self.old) (writing self.new)) }
+        ensures wrote { OnOk result ((items : List (ℕ × Seen)) → HasWritten items (writing self.old) → HasWritten (items ++ (length (writing self.old).bits, LeavesBlock) ∷ []) (writing self.new)) }
         ensures depth { OnOk result (length (writing self.new).blocks + 1 ≡ length (writing self.old).blocks) }
         ensures words { OnOk result (length (writing self.new).bits % 32 ≡ 0) }
         ensures err { OnErr result (writing self.new ≡ writing self.old) }
@@ -137,6 +144,7 @@ impl BitWriter {
         requires inside { 0 < length (writing self.old).blocks }
         requires ops { IsTrue (is_definition ops.now) }
         ensures ok { OnOk result (writing self.new ≡ defined ops.now (writing self.old)) }
+        ensures wrote { OnOk result ((items : List (ℕ × Seen)) → HasWritten items (writing self.old) → HasWritten items (writing self.new)) }
         ensures id { IfOk result (λ id. id ≡ next_id (writing self.old)) }
         ensures err { OnErr result (writing self.new ≡ writing self.old) }
     {
@@ -158,6 +166,7 @@ impl BitWriter {
     pub fn put_rec(&mut self, code: u64, ops: &[u64]) -> Result<(), NoMemory>
         requires { 0 < length (writing self.old).blocks }
         ensures ok { OnOk result (writing self.new ≡ recorded code ops.now (writing self.old)) }
+        ensures wrote { OnOk result ((items : List (ℕ × Seen)) → HasWritten items (writing self.old) → HasWritten (items ++ (length (writing self.old).bits, Record code ops.now None) ∷ []) (writing self.new)) }
         ensures err { OnErr result (writing self.new ≡ writing self.old) }
     {
         let mark = self.buffer.mark();
@@ -176,6 +185,7 @@ impl BitWriter {
         requires id { IsBlobId id (writing self.old) }
         requires fits { id < 2 ^ (writing self.old).width }
         ensures ok { OnOk result (writing self.new ≡ with_blob id blob.now (writing self.old)) }
+        ensures wrote { OnOk result ((items : List (ℕ × Seen)) (code : ℕ) → IsBlobCode id code (writing self.old) → HasWritten items (writing self.old) → HasWritten (items ++ (length (writing self.old).bits, Record code [] (Some blob.now)) ∷ []) (writing self.new)) }
         ensures err { OnErr result (writing self.new ≡ writing self.old) }
     {
         let mark = self.buffer.mark();
@@ -192,7 +202,9 @@ impl BitWriter {
     pub fn into_bytes(self) -> Text
         requires outside { length (writing self).blocks ≡ 0 }
         requires whole { length (writing self).bits % 32 ≡ 0 }
-        ensures { bits_of result ≡ (writing self).bits }
+        ensures bits { bits_of result ≡ (writing self).bits }
+        ensures stands { (items : List (ℕ × Seen)) → HasWritten items (writing self) → StandFor result items }
+        ensures read_back { (items : List (ℕ × Seen)) → HasWritten items (writing self) → items_in result ≡ (items, None) }
     {
         let BitWriter { buffer, .. } = self;
         buffer.into_bytes()

@@ -10,4 +10,4 @@ first_id none inside all id a b c is =
     rw (whole, four) (5, omega arith, refl)
 
 pub put_blob-requires-clause-id : goal.put_blob-requires-clause-id
-put_blob-requires-clause-id c = first_id _ _ _ _ c.new-writer.ensures c.in_ok-enter.ensures.ok c.in_ok-id.ensures.ok c.in_ok-id.ensures.id
+put_blob-requires-clause-id c = first_id _ _ _ _ c.new-writer.ensures.bits c.in_ok-enter.ensures.ok c.in_ok-id.ensures.ok c.in_ok-id.ensures.id

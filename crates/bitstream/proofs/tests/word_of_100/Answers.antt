@@ -9,4 +9,4 @@ unfolding vbr_bits
 whole none number all a b c = ap (λ s. length s.bits % 32) (c ∙ ap (with_bits (bits 20 0)) (b ∙ ap (with_bits (vbr_bits 6 100)) a))
 
 pub into_bytes-requires-clause-whole : goal.into_bytes-requires-clause-whole
-into_bytes-requires-clause-whole c = whole _ _ _ c.new-writer.ensures c.in_ok-vbr.ensures.ok c.in_ok-fixed.ensures.ok
+into_bytes-requires-clause-whole c = whole _ _ _ c.new-writer.ensures.bits c.in_ok-vbr.ensures.ok c.in_ok-fixed.ensures.ok

@@ -1,0 +1,9 @@
+use Rattle.bitstream.specs.Cursor.{here}
+use Rattle.bitstream.proofs.OnwardLaws.{fixed-onward}
+use Rattle.bitstream.proofs.ItemLaws.{read-sound}
+use Rattle.bitstream.proofs.reader.BitReader.fixed.Goals as goal
+
+pub invariant_of-self : goal.invariant_of-self
+invariant_of-self c = record {
+  sound = λ none. rw c.fixed.ensures.context (read-sound _ _ (here c.args.self.now.entries.cursor) _ _ _ (fixed-onward c.args.width (here c.args.self.now.entries.cursor)) (c.args.self.now.sound none) c.in-Ok.ensures.read);
+}

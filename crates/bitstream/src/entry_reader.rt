@@ -1,0 +1,345 @@
+ghost use Rattle.std.specs.Prelude.{◌≡◌, ◌≤◌, ◌*◌, ◌<◌, ◌++◌, All, length, OnOk};
+ghost use Rattle.bitstream.specs.Fields.{fixed_at, vbr_at};
+ghost use Rattle.bitstream.specs.Stream.{slice_seen};
+ghost use Rattle.bitstream.specs.Known.{known_for};
+
+use crate::cursor::Cursor;
+use crate::definition::Definition;
+use crate::{AbbrevOp, BitFault, Item, NoMemory, Operands};
+use std::alloc::Global;
+
+/// A block that is open: the bit of its ENTER, its number, the width of its ids, how many
+/// abbreviations the outer blocks have, the bit behind its length field, and its length in words.
+#[derive(Clone, Copy)]
+pub struct Scope {
+    entered: u128,
+    block: u32,
+    width: u32,
+    first: usize,
+    begins: u128,
+    said: u32,
+}
+
+/// A definition of BLOCKINFO, and the block that it is for.
+#[derive(Drop)]
+pub struct Known {
+    block: u32,
+    definition: Definition,
+}
+
+/// Puts what BLOCKINFO defined for a block behind other abbreviations.
+fn copy_known(
+    alloc: Global,
+    known: &[Known],
+    block: u32,
+    abbrevs: &mut Vec<Definition>,
+) -> Result<(), NoMemory>
+    ensures { OnOk result (abbrevs.new.items ≡ abbrevs.old.items ++ known_for block known.now) }
+{
+    for one in known {
+        if one.block == block {
+            match one.definition.copy(alloc) {
+                Ok(copy) => {
+                    if let Err(_) = abbrevs.push(copy) {
+                        return Err(NoMemory);
+                    }
+                }
+                Err(_) => return Err(NoMemory),
+            }
+        }
+    }
+    Ok(())
+}
+
+/// Reads the entries of a bitstream one by one. After a fault it stands anywhere.
+// Outside all blocks `outer` is empty, and `scope` has the width 2.
+#[derive(Drop)]
+pub struct EntryReader<'b> {
+    alloc: Global,
+    cursor: Cursor<'b>,
+    scope: Scope,
+    outer: Vec<Scope>,
+    abbrevs: Vec<Definition>,
+    known: Vec<Known>,
+    named: Option<u32>,
+    ghost width: { scope.width ≤ 32 },
+    ghost widths: { All (λ s. s.width ≤ 32) outer.items },
+}
+
+impl<'b> EntryReader<'b> {
+    ghost use Rattle.bitstream.specs.Reading.{at_end, context, left_at, EntryGives, ItemGives, outside, end_at, enter_at, define_at, judged, abbreviated_at, plain_at, entry_at, entry_by, next_at};
+    ghost use Rattle.bitstream.specs.Cursor.{here};
+    ghost use Rattle.bitstream.specs.Fields.{Gives, place};
+
+    /// A reader at the first bit.
+    pub fn new(alloc: Global, bytes: &'b [u8]) -> EntryReader<'b>
+        ensures place { here result.cursor ≡ place bytes.now 0 }
+        ensures context { context result ≡ outside }
+    {
+        EntryReader {
+            alloc,
+            cursor: Cursor::new(bytes),
+            scope: Scope {
+                entered: 0,
+                block: 1,
+                width: 2,
+                first: 0,
+                begins: 0,
+                said: 0,
+            },
+            outer: Vec::new(alloc),
+            abbrevs: Vec::new(alloc),
+            known: Vec::new(alloc),
+            named: None,
+        }
+    }
+
+    /// A number of this many bits.
+    pub fn fixed(&mut self, width: u32) -> Result<u64, BitFault>
+        requires { width ≤ 64 }
+        ensures read { Gives (here self.new.cursor) result (fixed_at width (here self.old.cursor)) }
+        ensures context { context self.new ≡ context self.old }
+    {
+        self.cursor.fixed(width)
+    }
+
+    /// A number in groups of this many bits.
+    pub fn vbr(&mut self, width: u32) -> Result<u64, BitFault>
+        requires { width ≤ 32 }
+        ensures read { Gives (here self.new.cursor) result (vbr_at width (here self.old.cursor)) }
+        ensures context { context self.new ≡ context self.old }
+    {
+        self.cursor.vbr(width)
+    }
+
+    fn is_at_end(&self) -> bool
+        ensures { result ≡ at_end (context self.now) (here self.now.cursor) }
+    {
+        self.outer.is_empty() && self.cursor.left() == 0
+    }
+
+    /// The next item and its first bit.
+    pub fn read_item(&mut self) -> Result<(u128, Item<'b>), BitFault>
+        ensures { ItemGives (context self.new) (here self.new.cursor) result (next_at (left_at (here self.old.cursor)) (context self.old) (here self.old.cursor)) }
+    {
+        let mut entries = self.cursor.left() + 1;
+        'each: while entries > 0 {
+            entries -= 1;
+            let at = self.cursor.at();
+            if self.is_at_end() {
+                return Ok((at, Item::End));
+            }
+            match self.entry() {
+                Ok(Some(item)) => return Ok((at, item)),
+                Ok(None) => {}
+                Err(fault) => return Err(fault),
+            }
+        }
+        // Each entry takes bits, so one of those that are left shows an item or has a fault.
+        Err(BitFault::NoMemory)
+    }
+
+    fn entry(&mut self) -> Result<Option<Item<'b>>, BitFault>
+        ensures { EntryGives (context self.new) (here self.new.cursor) result (entry_at (context self.old) (here self.old.cursor)) }
+    {
+        let at = self.cursor.at();
+        let id = match self.cursor.fixed(self.scope.width) {
+            Ok(id) => id,
+            Err(fault) => return Err(fault),
+        };
+        self.entry_behind(at, id)
+    }
+
+    fn entry_behind(&mut self, at: u128, id: u64) -> Result<Option<Item<'b>>, BitFault>
+        ensures { EntryGives (context self.new) (here self.new.cursor) result (entry_by at id (context self.old) (here self.old.cursor)) }
+    {
+        if id == 1 {
+            return self.enter(at);
+        }
+        if self.outer.is_empty() {
+            return Err(BitFault::OutsideBlock { at });
+        }
+        if id == 0 {
+            return self.end();
+        }
+        if id == 2 {
+            return self.define(at);
+        }
+        if id == 3 {
+            return self.plain(at);
+        }
+        self.abbreviated(at, id)
+    }
+
+    /// The end of the innermost block, behind its id.
+    fn end(&mut self) -> Result<Option<Item<'b>>, BitFault>
+        ensures { EntryGives (context self.new) (here self.new.cursor) result (end_at (context self.old) (here self.old.cursor)) }
+    {
+        let scope = self.scope;
+        if let Err(fault) = self.cursor.align() {
+            return Err(fault);
+        }
+        let words = self.cursor.at().saturating_sub(scope.begins) / 32 % 4294967296;
+        if words != scope.said as u128 {
+            return Err(BitFault::BadBlockLength {
+                at: scope.entered,
+                said: scope.said as u64,
+            });
+        }
+        self.abbrevs.truncate(scope.first);
+        if let Some(outer) = self.outer.pop() {
+            self.scope = outer;
+        }
+        if scope.block == 0 {
+            return Ok(None);
+        }
+        Ok(Some(Item::Leave))
+    }
+
+    /// The beginning of a block at the bit `at`, behind its id.
+    fn enter(&mut self, at: u128) -> Result<Option<Item<'b>>, BitFault>
+        ensures { EntryGives (context self.new) (here self.new.cursor) result (enter_at at (context self.old) (here self.old.cursor)) }
+    {
+        if self.scope.block == 0 {
+            return Err(BitFault::BadOperands { at });
+        }
+        if self.outer.len() >= 32 {
+            return Err(BitFault::TooDeep { at });
+        }
+        let opened = match self.cursor.opened(at) {
+            Ok(opened) => opened,
+            Err(fault) => return Err(fault),
+        };
+        let first = self.abbrevs.len();
+        if let Err(_) = copy_known(
+            self.alloc,
+            self.known.as_slice(),
+            opened.block,
+            &mut self.abbrevs,
+        ) {
+            return Err(BitFault::NoMemory);
+        }
+        if let Err(_) = self.outer.push(self.scope) {
+            return Err(BitFault::NoMemory);
+        }
+        self.scope = Scope {
+            entered: at,
+            block: opened.block,
+            width: opened.width,
+            first,
+            begins: opened.begins,
+            said: opened.said,
+        };
+        self.named = None;
+        if opened.block == 0 {
+            return Ok(None);
+        }
+        Ok(Some(Item::Enter {
+            block: opened.block,
+        }))
+    }
+
+    /// A definition at the bit `at`, behind its id.
+    fn define(&mut self, at: u128) -> Result<Option<Item<'b>>, BitFault>
+        ensures { EntryGives (context self.new) (here self.new.cursor) result (define_at at (context self.old) (here self.old.cursor)) }
+    {
+        if self.scope.block == 0 {
+            let block = match self.named {
+                Some(block) => block,
+                None => return Err(BitFault::BadOperands { at }),
+            };
+            let ops = match self.cursor.definition(self.alloc, at) {
+                Ok(ops) => ops,
+                Err(fault) => return Err(fault),
+            };
+            let known = Known {
+                block,
+                definition: Definition::from_vec(ops),
+            };
+            if let Err(_) = self.known.push(known) {
+                return Err(BitFault::NoMemory);
+            }
+            return Ok(None);
+        }
+        let ops = match self.cursor.definition(self.alloc, at) {
+            Ok(ops) => ops,
+            Err(fault) => return Err(fault),
+        };
+        if let Err(_) = self.abbrevs.push(Definition::from_vec(ops)) {
+            return Err(BitFault::NoMemory);
+        }
+        Ok(None)
+    }
+
+    /// A record without an abbreviation at the bit `at`, behind its id.
+    fn plain(&mut self, at: u128) -> Result<Option<Item<'b>>, BitFault>
+        ensures { EntryGives (context self.new) (here self.new.cursor) result (plain_at at (context self.old) (here self.old.cursor)) }
+    {
+        let code = match self.cursor.vbr(6) {
+            Ok(code) => code,
+            Err(fault) => return Err(fault),
+        };
+        let count = match self.cursor.vbr(6) {
+            Ok(count) => count,
+            Err(fault) => return Err(fault),
+        };
+        let mut numbers = Vec::new(self.alloc);
+        if let Err(fault) = self.cursor.numbers(count, AbbrevOp::Vbr(6), &mut numbers) {
+            return Err(fault);
+        }
+        self.record(at, code, numbers, None)
+    }
+
+    /// A record at the bit `at` by the abbreviation that has the id.
+    fn abbreviated(&mut self, at: u128, id: u64) -> Result<Option<Item<'b>>, BitFault>
+        requires { 4 ≤ id }
+        ensures { EntryGives (context self.new) (here self.new.cursor) result (abbreviated_at at id (context self.old) (here self.old.cursor)) }
+    {
+        let place = self.scope.first as u128 + (id - 4) as u128;
+        if place >= self.abbrevs.len() as u128 {
+            return Err(BitFault::UnknownAbbrev { at, id });
+        }
+        let mut numbers = Vec::new(self.alloc);
+        let ops = self.abbrevs[place as usize].as_slice();
+        let blob = match self.cursor.values(ops, &mut numbers) {
+            Ok(blob) => blob,
+            Err(fault) => return Err(fault),
+        };
+        if numbers.is_empty() {
+            return self.record(at, 0, numbers, blob);
+        }
+        let code = numbers.remove(0);
+        self.record(at, code, numbers, blob)
+    }
+
+    /// What a record at the bit `at` is: an item, or in BLOCKINFO the name of a block.
+    fn record(
+        &mut self,
+        at: u128,
+        code: u64,
+        numbers: Vec<u64>,
+        blob: Option<&'b [u8]>,
+    ) -> Result<Option<Item<'b>>, BitFault>
+        ensures { EntryGives (context self.new) (here self.new.cursor) result (judged at code numbers.items (slice_seen blob.entry) (context self.old) (here self.old.cursor)) }
+    {
+        if self.scope.block != 0 {
+            return Ok(Some(Item::Rec {
+                code,
+                ops: Operands::from_vec(numbers),
+                blob,
+            }));
+        }
+        if code != 1 {
+            return Ok(None);
+        }
+        if numbers.is_empty() {
+            return Err(BitFault::BadOperands { at });
+        }
+        let block = numbers[0];
+        if block >= 4294967296 {
+            return Err(BitFault::BadOperands { at });
+        }
+        self.named = Some(block as u32);
+        Ok(None)
+    }
+}
