@@ -1,0 +1,13 @@
+pub mod Complete
+pub mod FaultLaws
+pub mod Lists
+pub mod NameLaws
+pub mod Reached
+pub mod ShownLaws
+pub mod Single
+pub mod Sound
+pub mod SpelledLaws
+pub mod Steps
+pub mod Taking
+pub mod TextLaws
+pub mod WriteLaws

@@ -1,0 +1,7 @@
+pub mod Collected
+pub mod Judging
+pub mod Shown
+pub mod Spelling
+pub mod Stages
+pub mod Streams
+pub mod Written
