@@ -1,0 +1,5 @@
+pub mod DistinctLemmas
+pub mod MapLemmas
+pub mod OneLemmas
+pub mod PathLemmas
+pub mod PlainLemmas
