@@ -32,7 +32,7 @@ clean_of d = if is_none (at 4 d) then option_and_then clean_word (option_and_the
 abbrev pub file_of : List ℕ → Data → Option FileState
 file_of path d = if is_plain_path path then option_and_then (λ stamp. option_map (λ clean. record { path = path; stamp = stamp; clean = clean }) (clean_of d)) (stamp_of d) else None
 
-abbrev some_or : {A B : Type 0} → B → (A → B) → Option A → B
+abbrev pub some_or : {A B : Type 0} → B → (A → B) → Option A → B
 some_or none f None = none
 some_or none f (Some a) = f a
 
@@ -74,7 +74,7 @@ abbrev of_module : Data → Option (List ℕ) → Members → Option (List ℕ) 
 of_module d text files None = Err (Field (codes "module"))
 of_module d text files (Some named) = of_others named text files (option_and_then other_name (as_object d))
 
-abbrev of_map : Data → Members → Option (Option (List ℕ)) → Result BuildRecord RecordFault
+abbrev pub of_map : Data → Members → Option (Option (List ℕ)) → Result BuildRecord RecordFault
 of_map d files None = Err (Field (codes "map"))
 of_map d files (Some text) = of_module d text files (option_and_then as_str (get (codes "module") d))
 

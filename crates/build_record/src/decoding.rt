@@ -67,14 +67,14 @@ fn text_of(alloc: Global, text: Option<&str>) -> Result<Option<Text>, NoMemory>
 
 fn record_with(
     alloc: Global,
-    module: &str,
+    name: &str,
     map: Option<&str>,
     files: &Map<String, Value>,
 ) -> Result<Answer, NoMemory>
-    ensures { IfOk result (λ answer. answer ≡ of_files module.now (option_map (λ text. text.now) map.entry) (files_after [] (members_view files.now.entries))) }
+    ensures { IfOk result (λ answer. answer ≡ of_files name.now (option_map (λ text. text.now) map.entry) (files_after [] (members_view files.now.entries))) }
 {
     let map = text_of(alloc, map)?;
-    let module = Text::from_slice(alloc, module.as_bytes())?;
+    let module = Text::from_slice(alloc, name.as_bytes())?;
     match files_of(alloc, files)? {
         Ok(files) => Ok(Ok(BuildRecord { module, map, files })),
         Err(fault) => Ok(Err(fault)),

@@ -1,7 +1,10 @@
-ghost use Rattle.std.specs.Prelude.{◌≡◌, IfOk, IfSome, IsUtf8};
+ghost use Rattle.std.specs.Prelude.{◌≡◌, IsTrue, IfOk, IfSome, IsUtf8};
+ghost use Rattle.std.specs.List.{list_all};
 ghost use Rattle.serde_json.specs.Data.{no_members, string, object};
 ghost use Rattle.serde_json.specs.View.{view, members_view};
 ghost use Rattle.build_record.specs.Format.{stamp_value, with_files, map_value, record_value, record_text};
+ghost use Rattle.build_record.specs.Reading.{IsTextOfRecord};
+ghost use Rattle.build_record.specs.Sources.{nanos_fit, AreSources};
 
 use crate::{BuildRecord, FileState};
 use drv_outside::{NoMemory, Text};
@@ -30,17 +33,28 @@ fn map_value(alloc: Global, map: &Option<Text>) -> Result<Value, AllocError>
     }
 }
 
+// The nanoseconds of a file's stamp. They fit 32 bits.
+fn nanos_of(file: &FileState) -> u32
+    ensures value { result ≡ file.now.stamp.nanos }
+    ensures fit { IsTrue (nanos_fit file.now) }
+{
+    file.stamp.nanos
+}
+
 fn file_value(alloc: Global, file: &FileState) -> Result<Value, AllocError>
-    ensures { IfOk result (λ value. view value ≡ stamp_value file.now.stamp file.now.clean) }
+    ensures value { IfOk result (λ value. view value ≡ stamp_value file.now.stamp file.now.clean) }
+    ensures fits { IsTrue (nanos_fit file.now) }
 {
     let stamp = file.stamp;
+    let nanos = nanos_of(file);
     let word = if file.clean { "clean" } else { "dirty" };
-    let value = json!(in alloc; [stamp.secs, stamp.nanos, stamp.size, word])?;
+    let value = json!(in alloc; [stamp.secs, nanos, stamp.size, word])?;
     Ok(value)
 }
 
 fn files_value(alloc: Global, files: &[FileState]) -> Result<Value, AllocError>
-    ensures { IfOk result (λ value. view value ≡ object (with_files no_members files.now)) }
+    ensures value { IfOk result (λ value. view value ≡ object (with_files no_members files.now)) }
+    ensures fit { IfOk result (λ _. IsTrue (list_all nanos_fit files.now)) }
 {
     let mut members = Map::new(alloc);
     for file in files {
@@ -53,7 +67,8 @@ fn files_value(alloc: Global, files: &[FileState]) -> Result<Value, AllocError>
 fn record_value(alloc: Global, state: &BuildRecord) -> Result<Value, AllocError>
     requires module { IsUtf8 state.now.module }
     requires map { IfSome state.now.map IsUtf8 }
-    ensures { IfOk result (λ value. view value ≡ record_value state.now) }
+    ensures value { IfOk result (λ value. view value ≡ record_value state.now) }
+    ensures fit { IfOk result (λ _. IsTrue (list_all nanos_fit state.now.files)) }
 {
     let files = files_value(alloc, state.files.as_slice())?;
     let mut members = Map::new(alloc);
@@ -66,11 +81,12 @@ fn record_value(alloc: Global, state: &BuildRecord) -> Result<Value, AllocError>
     Ok(Value::Object(members))
 }
 
-/// The text of a record.
+/// The text of a record. `decode` reads it back as the record, where its paths are plain and ascend.
 pub fn encode(alloc: Global, state: &BuildRecord) -> Result<Text, NoMemory>
     requires module { IsUtf8 state.now.module }
     requires map { IfSome state.now.map IsUtf8 }
     ensures text { IfOk result (λ text. text ≡ record_text state.now) }
+    ensures read_back { AreSources state.now.files → IfOk result (λ text. IsTextOfRecord text state.now) }
 {
     let value = record_value(alloc, state)?;
     let text = value.to_string(alloc)?;

@@ -6,7 +6,7 @@ use Rattle.std.proofs.lemmas.Bool.Decides.{Decides-eqb}
 use Rattle.std.proofs.lemmas.Slice.Eq.{ends_is}
 use Rattle.module_merge.specs.Lines.{is_line_feed, has_ended_lines, lines_of, text_of, all_but_first}
 
-ends : (text : List ℕ) → has_ended_lines text ≡ true → text ≡ take (length text - 1) text ++ 10 ∷ []
+pub ends : (text : List ℕ) → has_ended_lines text ≡ true → text ≡ take (length text - 1) text ++ 10 ∷ []
 ends text e = (ends_is Decides-eqb text (codes "\n") (has_ended_lines text) refl).0 e
 
 filled : (front : List ℕ) → front ++ 10 ∷ [] ≡ [] → ⊥
@@ -17,7 +17,7 @@ onto_text : (b : ℕ) (lines : List (List ℕ)) (rest : List ℕ) → text_of li
 onto_text b [] rest e h = absurd (h (sym e))
 onto_text b (line ∷ lines) rest e h = ap (λ t. b ∷ t) e
 
-feed_is : (b : ℕ) → is_line_feed b ≡ true → b ≡ 10
+pub feed_is : (b : ℕ) → is_line_feed b ≡ true → b ≡ 10
 feed_is b e = grind arith
 
 text_step : (b : ℕ) (feed : Bool) (rest : List ℕ) → is_line_feed b ≡ feed → text_of (lines_of rest) ≡ rest → (rest ≡ [] → ⊥) → text_of (cond feed ([] ∷ lines_of rest) (onto_first b (lines_of rest))) ≡ b ∷ rest

@@ -1,6 +1,6 @@
 -- Plain paths are ASCII, and so UTF-8.
 use Rattle.std.proofs.Common.{◌≡◌, ◌<◌, ◌&&◌, ℕ, Bool, true, false, List, not, nat_le, nat_eq, length, get_or, refl, arith}
-use Rattle.std.specs.List.{starts_with, ends_with}
+use Rattle.std.specs.List.{list_all, starts_with, ends_with}
 use Rattle.std.specs.Str.{IsUtf8}
 use Rattle.std.proofs.lemmas.Str.{IsUtf8-from_ascii}
 use Rattle.std.proofs.lemmas.Str.Ascii.{IsAscii-from_all}
@@ -16,6 +16,10 @@ fourth true true true false e is = is
 fourth true true false d e is = absurd (cc)
 fourth true false c d e is = absurd (cc)
 fourth false b c d e is = absurd (cc)
+
+-- A plain path has bytes of paths alone.
+pub path_bytes : (bytes : List ℕ) → is_plain_path bytes ≡ true → list_all is_path_byte bytes ≡ true
+path_bytes bytes e = fourth (nat_le (length bytes) 200) (ends_with nat_eq bytes swift_ending) (not (starts_with nat_eq bytes full_stop)) (are_path_bytes bytes) (are_plain_components bytes) e
 
 plain_is_utf8 : (bytes : List ℕ) → is_plain_path bytes ≡ true → IsUtf8 bytes
 plain_is_utf8 bytes e = IsUtf8-from_ascii bytes (IsAscii-from_all bytes (λ k d lt. path_byte_is_ascii (get_or bytes k d) (AllPass-from_list_all is_path_byte bytes (fourth (nat_le (length bytes) 200) (ends_with nat_eq bytes swift_ending) (not (starts_with nat_eq bytes full_stop)) (are_path_bytes bytes) (are_plain_components bytes) e) k d lt)))

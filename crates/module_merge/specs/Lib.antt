@@ -1,3 +1,6 @@
+pub mod ByPath
+pub mod Ends
+pub mod Image
 pub mod Lines
 pub mod Module
 pub mod Object

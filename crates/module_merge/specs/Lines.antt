@@ -37,3 +37,7 @@ begins_with line word = pointwise nat_eq (take (length word) line) word
 -- the word and then a plain path, and nothing else
 abbrev pub is_heading : List ℕ → List ℕ → Bool
 is_heading word line = begins_with line word && is_plain_path (drop (length word) line)
+
+-- Lines that each end with a line feed, the first of them the word and then a plain path.
+abbrev pub is_headed : List ℕ → List ℕ → Bool
+is_headed word text = has_ended_lines text && is_heading word (first_line text)

@@ -3,7 +3,7 @@ use Rattle.std.specs.Prelude.{◌&&◌, ◌||◌, cond, ℕ, Bool, not, List, co
 use Rattle.std.specs.List.{list_all, slice_split, before_first, after_first, starts_with}
 use Rattle.std.specs.Cmp.Lexicographic.{pointwise}
 use Rattle.std.specs.Char.{is_ascii_digit}
-use Rattle.module_merge.specs.Lines.{is_line_feed, is_blank, has_ended_lines, first_line, begins_with, is_heading}
+use Rattle.module_merge.specs.Lines.{is_line_feed, is_blank, begins_with, is_headed}
 
 -- what stands before the first blank, and what stands after it
 abbrev pub first_word : List ℕ → List ℕ
@@ -73,4 +73,4 @@ are_object_lines text = list_all is_object_line (slice_split is_line_feed text)
 -- Lines that each end with a line feed, the first of them "object PATH" with a plain path, and each
 -- of these forms where it begins with such a word.
 abbrev pub is_object : List ℕ → Bool
-is_object text = (has_ended_lines text && is_heading (codes "object ") (first_line text)) && are_object_lines text
+is_object text = is_headed (codes "object ") text && are_object_lines text

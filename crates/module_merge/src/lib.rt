@@ -4,11 +4,18 @@
 //! an object text, with its code.
 #![tactic(auto)]
 
+mod by_path;
+mod ends;
+mod image_text;
 mod lines;
+mod linking;
 mod module;
 mod object;
+mod symbols;
 
 pub use drv_outside::{NoMemory, Text};
+pub use ends::MergeEnd;
+pub use image_text::image;
 pub use module::{is_partial, merged_module};
 pub use object::is_object;
 

@@ -1,7 +1,7 @@
 ghost use Rattle.std.specs.Prelude.{◌≡◌, ◌≤◌, length, nat_eq};
 ghost use Rattle.std.specs.List.{position_or_len, before_first, after_first};
 ghost use Rattle.drv_outside.specs.Plain.{is_plain_path as is_plain};
-ghost use Rattle.module_merge.specs.Lines.{has_ended_lines, is_heading};
+ghost use Rattle.module_merge.specs.Lines.{has_ended_lines, is_heading, is_headed};
 
 use drv_outside::is_plain_path;
 
@@ -48,7 +48,7 @@ fn is_path(bytes: &[u8]) -> bool
 }
 
 // Whether a line is this word and then a plain path.
-pub(crate) fn is_heading(word: &[u8], line: &[u8]) -> bool
+fn is_heading(word: &[u8], line: &[u8]) -> bool
     ensures { result ≡ is_heading word.now line.now }
 {
     match line.strip_prefix(word) {
@@ -58,8 +58,16 @@ pub(crate) fn is_heading(word: &[u8], line: &[u8]) -> bool
 }
 
 // Whether there are lines, each of which ends with a line feed.
-pub(crate) fn has_ended_lines(text: &[u8]) -> bool
+fn has_ended_lines(text: &[u8]) -> bool
     ensures { result ≡ has_ended_lines text.now }
 {
     text.ends_with(b"\n")
+}
+
+// Whether there are lines, each of which ends with a line feed, the first of them this word and then a
+// plain path.
+pub(crate) fn is_headed(word: &[u8], text: &[u8]) -> bool
+    ensures { result ≡ is_headed word.now text.now }
+{
+    has_ended_lines(text) && is_heading(word, before(text, b'\n'))
 }

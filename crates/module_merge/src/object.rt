@@ -1,7 +1,7 @@
 ghost use Rattle.std.specs.Prelude.{◌≡◌};
 ghost use Rattle.module_merge.specs.Object.{are_digits, has_no_leading_zero, is_numeral, are_two_numerals, are_three_numerals, is_zero_and_numeral, is_global_line, is_func_line, is_load_line, is_store_line, is_call_line, is_object_line, are_object_lines, is_object, has_symbol};
 
-use crate::lines::{after, before, has_ended_lines, is_heading};
+use crate::lines::{after, before, is_headed};
 
 fn are_digits(text: &[u8]) -> bool
     ensures { result ≡ are_digits text.now }
@@ -117,5 +117,5 @@ fn are_object_lines(text: &[u8]) -> bool
 pub fn is_object(text: &[u8]) -> bool
     ensures { result ≡ is_object text.now }
 {
-    has_ended_lines(text) && is_heading(b"object ", before(text, b'\n')) && are_object_lines(text)
+    is_headed(b"object ", text) && are_object_lines(text)
 }

@@ -1,0 +1,15 @@
+-- The files of a record that is read back.
+use Rattle.std.specs.Prelude.{◌^◌, Bool, List, map, All, IsTrue, nat_lt}
+use Rattle.std.specs.List.Sorted.{IsStrictlySortedBy}
+use Rattle.std.specs.Ordering.{nat_cmp}
+use Rattle.std.specs.Cmp.Lexicographic.{slice_cmp}
+use Rattle.drv_outside.specs.Plain.{is_plain_path}
+use Rattle.build_record.specs.declared.record.FileState.{FileState}
+
+-- the nanoseconds fit 32 bits
+abbrev pub nanos_fit : FileState → Bool
+nanos_fit file = nat_lt file.stamp.nanos (2 ^ 32)
+
+-- The paths are plain, and each is below those after it.
+abbrev pub AreSources : List FileState → Type 0
+AreSources files = All (λ file. IsTrue (is_plain_path file.path)) files × IsStrictlySortedBy (slice_cmp nat_cmp) (map (λ file. file.path) files)
