@@ -1,18 +1,19 @@
 -- The entries of a stream: what is written is read, and what is read is written so.
-use Rattle.std.proofs.Common.{◌≡◌, ℕ, zero, suc, ◌+◌, ◌-◌, ◌/◌, ◌%◌, ◌^◌, ◌<◌, ◌≤◌, ◌==◌, Bool, true, false, List, [], ◌∷◌, ◌++◌, map, length, take, slice_get, slice_index_or, refl, sym, ◌∙◌, ap, subst, arith, length-append, append_assoc, ltb-true, leb-true, leb-false, lt-ltb, eqb-true, nat_lt, nat_le, Ok, Err, Result, Some, None, Option, if◌then◌else◌, lit<}
+use Rattle.std.proofs.Common.{◌≡◌, ℕ, zero, suc, ◌+◌, ◌-◌, ◌/◌, ◌%◌, ◌^◌, ◌<◌, ◌≤◌, ◌==◌, Bool, true, false, List, [], ◌∷◌, ◌++◌, map, length, take, drop, slice_get, slice_index_or, refl, sym, ◌∙◌, ap, subst, arith, length-append, append_assoc, ltb-true, ltb-false, leb-true, leb-false, lt-ltb, le-ltb, eqb-true, nat_lt, nat_le, Ok, Err, Result, Some, None, Option, if◌then◌else◌, lit<}
 use Rattle.std.proofs.lemmas.Bool.{eqb-false, eq-eqb, ne_eqb}
-use Rattle.std.proofs.lemmas.List.{append-nil}
+use Rattle.std.proofs.lemmas.List.{append-nil, length-take-le, take-append-le, take-append-drop, take_all}
 use Rattle.std.proofs.Math.Seq.{take-append_seam}
 use Rattle.bitstream.specs.declared.item.BitFault.{BitFault}
 use Rattle.bitstream.specs.declared.item.BitFault.TheVariants.{OutsideBlock, TooDeep, BadOperands, BadBlockLength}
 use Rattle.bitstream.specs.declared.item.AbbrevOp.{AbbrevOp}
 use Rattle.bitstream.specs.declared.item.AbbrevOp.TheVariants.{Literal, Fixed, Vbr, Array, Char6, Blob}
 use Rattle.bitstream.specs.declared.cursor.Opened.{Opened}
-use Rattle.bitstream.specs.declared.entry_reader.Known.{Known}
+use Rattle.bitstream.specs.declared.known.Known.{Known}
 use Rattle.bitstream.specs.declared.entry_reader.Scope.{Scope}
 use Rattle.bitstream.specs.Fields.{Place, at_bits, fixed_at, vbr_at, ◌>>=◌}
 use Rattle.bitstream.specs.Stream.{opened_at, definition_at, numbers_at}
 use Rattle.bitstream.specs.Known.{known_for}
+use Rattle.bitstream.specs.Scopes.{abbrev_in}
 use Rattle.bitstream.specs.Writer.{is_definition}
 use Rattle.bitstream.specs.Reading.{Seen, Enters, Leaves, Record, Context, shown_in, left_block, end_at, entered_block, enter_at, defined_for, define_at, judged, plain_at, judged_values, by_abbrev, entry_by, entry_at}
 use Rattle.bitstream.specs.Items.{IsSound}
@@ -29,39 +30,103 @@ pub record IsBlock (s : Scope) (b : Block) : Type 0 where
   pub begins : s.begins ≡ b.begins
   pub words : s.said ≡ b.words
 
+-- a block's abbreviations are those that BLOCKINFO had defined for it, and its own, which stand behind others
+pub record HasAbbrevs (ks : List Known) (s : Scope) (before abbrevs all : List (List AbbrevOp)) : Type 0 where
+  pub own : List (List AbbrevOp)
+  pub behind : abbrevs ≡ before ++ own
+  pub enough : s.known ≤ length (known_for s.block ks)
+  pub is : all ≡ take s.known (known_for s.block ks) ++ own
+
 -- a reader's open blocks are these
-abbrev pub Matches : Scope → List Scope → List (List AbbrevOp) → List Block → Type 0
-Matches s outer abbrevs [] = (s.width ≡ 2) × ((s.block == 0) ≡ false) × (outer ≡ []) × (abbrevs ≡ [])
-Matches s outer abbrevs (b ∷ bs) = (before : List (List AbbrevOp)) × (next : Scope) × (others : List Scope)
-    × IsBlock s b × (abbrevs ≡ before ++ b.abbrevs) × (s.first ≡ length before) × (outer ≡ others ++ next ∷ []) × Matches next others before bs
+abbrev pub Matches : List Known → Scope → List Scope → List (List AbbrevOp) → List Block → Type 0
+Matches ks s outer abbrevs [] = (s.width ≡ 2) × ((s.block == 0) ≡ false) × (outer ≡ []) × (abbrevs ≡ []) × (s.known ≡ 0)
+Matches ks s outer abbrevs (b ∷ bs) = (before : List (List AbbrevOp)) × (next : Scope) × (others : List Scope)
+    × IsBlock s b × HasAbbrevs ks s before abbrevs b.abbrevs × (s.first ≡ length before) × (outer ≡ others ++ next ∷ []) × Matches ks next others before bs
 
 abbrev pub pair_of : Known → ℕ × List AbbrevOp
 pair_of k = (k.block, k.definition)
 
 pub record Same (c : Context) (w : Blocks) : Type 0 where
-  pub matches : Matches c.scope c.outer c.abbrevs w.open_blocks
+  pub matches : Matches c.known c.scope c.outer c.abbrevs w.open_blocks
   pub defined : w.defined ≡ map pair_of c.known
   pub named : w.named ≡ c.named
 
-pub same-width : (s : Scope) (outer : List Scope) (abbrevs : List (List AbbrevOp)) (bs : List Block) → Matches s outer abbrevs bs → s.width ≡ width_in bs
-same-width s outer abbrevs [] m = m.0
-same-width s outer abbrevs (b ∷ bs) m = (m.3).width
+pub same-width : (ks : List Known) (s : Scope) (outer : List Scope) (abbrevs : List (List AbbrevOp)) (bs : List Block) → Matches ks s outer abbrevs bs → s.width ≡ width_in bs
+same-width ks s outer abbrevs [] m = m.0
+same-width ks s outer abbrevs (b ∷ bs) m = (m.3).width
 
-pub same-info : (s : Scope) (outer : List Scope) (abbrevs : List (List AbbrevOp)) (bs : List Block) → Matches s outer abbrevs bs → (s.block == 0) ≡ in_info bs
-same-info s outer abbrevs [] m = m.1
-same-info s outer abbrevs (b ∷ bs) m = ap (λ n. n == 0) (m.3).number
+pub same-info : (ks : List Known) (s : Scope) (outer : List Scope) (abbrevs : List (List AbbrevOp)) (bs : List Block) → Matches ks s outer abbrevs bs → (s.block == 0) ≡ in_info bs
+same-info ks s outer abbrevs [] m = m.1
+same-info ks s outer abbrevs (b ∷ bs) m = ap (λ n. n == 0) (m.3).number
 
-pub same-depth : (s : Scope) (outer : List Scope) (abbrevs : List (List AbbrevOp)) (bs : List Block) → Matches s outer abbrevs bs → length outer ≡ length bs
-same-depth s outer abbrevs [] m = ap length m.2
-same-depth s outer abbrevs (b ∷ bs) (before, next, others, is, a, f, o, m) = ap length o ∙ omega (arith, length-append others (next ∷ []), same-depth next others before bs m)
+pub same-depth : (ks : List Known) (s : Scope) (outer : List Scope) (abbrevs : List (List AbbrevOp)) (bs : List Block) → Matches ks s outer abbrevs bs → length outer ≡ length bs
+same-depth ks s outer abbrevs [] m = ap length m.2
+same-depth ks s outer abbrevs (b ∷ bs) (before, next, others, is, a, f, o, m) = ap length o ∙ omega (arith, length-append others (next ∷ []), same-depth ks next others before bs m)
 
 get-behind : {X : Type 0} (xs ys : List X) (k : ℕ) → slice_get (xs ++ ys) (length xs + k) ≡ slice_get ys k
 get-behind [] ys k = ap (slice_get ys) (let e : 0 + k ≡ k = omega arith in e)
 get-behind (x ∷ xs) ys k = ap (slice_get (x ∷ (xs ++ ys))) (let e : suc (length xs) + k ≡ suc (length xs + k) = omega arith in e) ∙ get-behind xs ys k
 
-pub same-abbrevs : (s : Scope) (outer : List Scope) (abbrevs : List (List AbbrevOp)) (bs : List Block) (k : ℕ) → Matches s outer abbrevs bs → slice_get abbrevs (s.first + k) ≡ slice_get (abbrevs_in bs) k
-same-abbrevs s outer abbrevs [] k m = ap (λ l. slice_get l (s.first + k)) m.3
-same-abbrevs s outer abbrevs (b ∷ bs) k (before, next, others, is, a, f, o, m) = rw (a, f) (get-behind before b.abbrevs k)
+get-front : {X : Type 0} (xs ys : List X) (k : ℕ) → k < length xs → slice_get (xs ++ ys) k ≡ slice_get xs k
+get-front [] ys k low = absurd (omega (arith, low))
+get-front (x ∷ xs) ys zero low = refl
+get-front (x ∷ xs) ys (suc k) low = get-front xs ys k (omega (arith, low))
+
+get-taken : {X : Type 0} (n : ℕ) (xs : List X) (k : ℕ) → k < n → n ≤ length xs → slice_get (take n xs) k ≡ slice_get xs k
+get-taken n xs k low room = sym (get-front (take n xs) (drop n xs) k (omega (arith, low, length-take-le n xs room))) ∙ ap (λ l. slice_get l k) (take-append-drop n xs)
+
+-- the abbreviation that a block's number stands for
+has-abbrev : (ks : List Known) (s : Scope) (before abbrevs all : List (List AbbrevOp)) (k : ℕ) → HasAbbrevs ks s before abbrevs all → s.first ≡ length before → abbrev_in s ks abbrevs k ≡ slice_get all k
+has-abbrev ks s before abbrevs all k h first = by_known (nat_lt k s.known) refl
+  where
+    front : List (List AbbrevOp)
+    front = take s.known (known_for s.block ks)
+
+    long : length front ≡ s.known
+    long = length-take-le s.known (known_for s.block ks) h.enough
+
+    by_known : (low : Bool) → nat_lt k s.known ≡ low → abbrev_in s ks abbrevs k ≡ slice_get all k
+    by_known true t = rw (t, h.is) (sym (get-front front h.own k (omega (arith, ltb-true _ _ t, long)) ∙ get-taken s.known (known_for s.block ks) k (ltb-true _ _ t) h.enough))
+    by_known false t =
+        let place : k ≡ length front + (k - s.known) = omega (arith, ltb-false _ _ t, long) in
+        rw (t, h.is, h.behind, first) (get-behind before h.own (k - s.known) ∙ sym (ap (slice_get (front ++ h.own)) place ∙ get-behind front h.own (k - s.known)))
+
+pub same-abbrevs : (ks : List Known) (s : Scope) (outer : List Scope) (abbrevs : List (List AbbrevOp)) (bs : List Block) (k : ℕ) → Matches ks s outer abbrevs bs → abbrev_in s ks abbrevs k ≡ slice_get (abbrevs_in bs) k
+same-abbrevs ks s outer abbrevs [] k m = rw (m.4, m.3, le-ltb k 0 (omega arith)) refl
+same-abbrevs ks s outer abbrevs (b ∷ bs) k (before, next, others, is, a, f, o, m) = has-abbrev ks s before abbrevs b.abbrevs k a f
+
+known_for-append : (number : ℕ) (ks more : List Known) → known_for number (ks ++ more) ≡ known_for number ks ++ known_for number more
+known_for-append number [] more = refl
+known_for-append number (k ∷ ks) more = by_block (k.block == number) refl (known_for-append number ks more)
+  where
+    by_block : (same : Bool) → (k.block == number) ≡ same → known_for number (ks ++ more) ≡ known_for number ks ++ known_for number more
+        → known_for number ((k ∷ ks) ++ more) ≡ known_for number (k ∷ ks) ++ known_for number more
+    by_block true t e = rw (t, e) refl
+    by_block false t e = rw (t, e) refl
+
+-- what BLOCKINFO defines later changes no block that is open
+abbrevs-stay : (ks more : List Known) (s : Scope) (before abbrevs all : List (List AbbrevOp)) → HasAbbrevs ks s before abbrevs all → HasAbbrevs (ks ++ more) s before abbrevs all
+abbrevs-stay ks more s before abbrevs all h =
+    let split = known_for-append s.block ks more in
+    record {
+      own = h.own;
+      behind = h.behind;
+      enough = omega (arith, h.enough, ap length split, length-append (known_for s.block ks) (known_for s.block more));
+      is = h.is ∙ ap (λ l. l ++ h.own) (sym (ap (take s.known) split ∙ take-append-le s.known (known_for s.block ks) (known_for s.block more) h.enough));
+    }
+
+matches-stay : (ks more : List Known) (s : Scope) (outer : List Scope) (abbrevs : List (List AbbrevOp)) (bs : List Block) → Matches ks s outer abbrevs bs → Matches (ks ++ more) s outer abbrevs bs
+matches-stay ks more s outer abbrevs [] m = m
+matches-stay ks more s outer abbrevs (b ∷ bs) (before, next, others, is, a, f, o, m) = (
+  before,
+  next,
+  others,
+  is,
+  abbrevs-stay ks more s before abbrevs b.abbrevs a,
+  f,
+  o,
+  matches-stay ks more next others before bs m,
+)
 
 pub known-same : (number : ℕ) (ks : List Known) → known_for number ks ≡ defined_for_block number (map pair_of ks)
 known-same number [] = refl
@@ -80,11 +145,11 @@ front-scopes : (others : List Scope) (next : Scope) → take (length (others ++ 
 front-scopes others next = ap (λ k. take k (others ++ next ∷ [])) (let e : length (others ++ next ∷ []) - 1 ≡ length others = omega (arith, length-append others (next ∷ [])) in e) ∙ take-append_seam others (next ∷ [])
 
 -- the open blocks behind an end
-left-matches : (c : Context) (b : Block) (bs : List Block) → Matches c.scope c.outer c.abbrevs (b ∷ bs) → Matches (left_block c).scope (left_block c).outer (left_block c).abbrevs bs
+left-matches : (c : Context) (b : Block) (bs : List Block) → Matches c.known c.scope c.outer c.abbrevs (b ∷ bs) → Matches c.known (left_block c).scope (left_block c).outer (left_block c).abbrevs bs
 left-matches c b bs (before, next, others, is, a, f, o, m) =
     let scope : slice_index_or c.outer (length c.outer - 1) c.scope ≡ next = rw o (last-scope others next c.scope) in
     let outer : take (length c.outer - 1) c.outer ≡ others = rw o (front-scopes others next) in
-    let abbrevs : take c.scope.first c.abbrevs ≡ before = rw (a, f) (take-append_seam before b.abbrevs) in
+    let abbrevs : take c.scope.first c.abbrevs ≡ before = rw (a.behind, f) (take-append_seam before a.own) in
     rw (scope, outer, abbrevs) m
 
 entered-same : (at begins : ℕ) (number width words : ℕ) (c : Context) (w : Blocks) → Same c w → Same (entered_block at (opened_is number width words begins) c) (after_entry w begins (EnterBlock number width words))
@@ -94,7 +159,12 @@ entered-same at begins number width words c w s = record {
     c.scope,
     c.outer,
     record { number = refl; width = refl; begins = refl; words = refl },
-    ap (λ l. c.abbrevs ++ l) (known-same number c.known ∙ ap (defined_for_block number) (sym s.defined)),
+    record {
+      own = [];
+      behind = sym (append-nil c.abbrevs);
+      enough = omega arith;
+      is = ap (defined_for_block number) s.defined ∙ sym (known-same number c.known) ∙ sym (append-nil (take (length (known_for number c.known)) (known_for number c.known)) ∙ take_all (length (known_for number c.known)) (known_for number c.known) (omega arith));
+    },
     refl,
     refl,
     s.matches,
@@ -103,17 +173,22 @@ entered-same at begins number width words c w s = record {
   named = refl;
 }
 
-left-same : (c : Context) (b : Block) (bs : List Block) (w : Blocks) → Matches c.scope c.outer c.abbrevs (b ∷ bs) → Same c w → Same (left_block c) (record w { open_blocks = bs })
+left-same : (c : Context) (b : Block) (bs : List Block) (w : Blocks) → Matches c.known c.scope c.outer c.abbrevs (b ∷ bs) → Same c w → Same (left_block c) (record w { open_blocks = bs })
 left-same c b bs w m s = record { matches = left-matches c b bs m; defined = s.defined; named = s.named }
 
-with-matches : (s : Scope) (outer : List Scope) (abbrevs : List (List AbbrevOp)) (ops : List AbbrevOp) (b : Block) (bs : List Block) → Matches s outer abbrevs (b ∷ bs)
-    → Matches s outer (abbrevs ++ ops ∷ []) (with_abbrev ops (b ∷ bs))
-with-matches s outer abbrevs ops b bs (before, next, others, is, a, f, o, m) = (
+with-matches : (ks : List Known) (s : Scope) (outer : List Scope) (abbrevs : List (List AbbrevOp)) (ops : List AbbrevOp) (b : Block) (bs : List Block) → Matches ks s outer abbrevs (b ∷ bs)
+    → Matches ks s outer (abbrevs ++ ops ∷ []) (with_abbrev ops (b ∷ bs))
+with-matches ks s outer abbrevs ops b bs (before, next, others, is, a, f, o, m) = (
   before,
   next,
   others,
   record { number = is.number; width = is.width; begins = is.begins; words = is.words },
-  ap (λ l. l ++ ops ∷ []) a ∙ append_assoc before b.abbrevs (ops ∷ []),
+  record {
+    own = a.own ++ ops ∷ [];
+    behind = ap (λ l. l ++ ops ∷ []) a.behind ∙ append_assoc before a.own (ops ∷ []);
+    enough = a.enough;
+    is = ap (λ l. l ++ ops ∷ []) a.is ∙ append_assoc (take s.known (known_for s.block ks)) a.own (ops ∷ []);
+  },
   f,
   o,
   m,
@@ -168,7 +243,7 @@ judged-naming : (at code : ℕ) (ops : List ℕ) (blob : Option (List ℕ)) (c :
 judged-naming at code ops blob c w s block info one (number, more, is, small) = subst (λ l. Judges at code l blob c w) (sym is) (judged-name at code number more blob c w s block info one small)
 
 pub judged-again : (at code : ℕ) (ops : List ℕ) (blob : Option (List ℕ)) (c : Context) (w : Blocks) → Same c w → (in_info w.open_blocks ≡ true → Names code ops) → Judges at code ops blob c w
-judged-again at code ops blob c w s names = by_info (in_info w.open_blocks) refl (same-info c.scope c.outer c.abbrevs w.open_blocks s.matches)
+judged-again at code ops blob c w s names = by_info (in_info w.open_blocks) refl (same-info c.known c.scope c.outer c.abbrevs w.open_blocks s.matches)
   where
     by_code : in_info w.open_blocks ≡ true → (c.scope.block == 0) ≡ true → (one : Bool) → (code == 1) ≡ one → Judges at code ops blob c w
     by_code t block false u = judged-other at code ops blob c w s block t u
@@ -188,7 +263,7 @@ judged-by : (at code : ℕ) (ops : List ℕ) (blob : Option (List ℕ)) (c : Con
 judged-by at code ops blob c w p j names = rw (j.read p) ([], (refl, names, j.same, j.shows), refl, omega arith)
 
 pub judged-spelled : (at code : ℕ) (ops : List ℕ) (blob : Option (List ℕ)) (c : Context) (w : Blocks) (p : Place) → Same c w → Spelled (JudgedSo at code ops blob w) p (judged at code ops blob c p)
-judged-spelled at code ops blob c w p s = by_info (in_info w.open_blocks) refl (same-info c.scope c.outer c.abbrevs w.open_blocks s.matches)
+judged-spelled at code ops blob c w p s = by_info (in_info w.open_blocks) refl (same-info c.known c.scope c.outer c.abbrevs w.open_blocks s.matches)
   where
     by : (in_info w.open_blocks ≡ true → Names code ops) → Spelled (JudgedSo at code ops blob w) p (judged at code ops blob c p)
     by names = judged-by at code ops blob c w p (judged-again at code ops blob c w s names) names
@@ -233,10 +308,10 @@ entry-behind c at id C x P more front rest (one, other, p, q, is) holds =
     ap (λ s. s >>= f) here ∙ behind ∙ ap result place
 
 inside : (c : Context) (w : Blocks) → Same c w → 0 < length w.open_blocks → (length c.outer == 0) ≡ false
-inside c w s some = ne_eqb (length c.outer) 0 (λ e. absurd (omega (arith, e, some, same-depth c.scope c.outer c.abbrevs w.open_blocks s.matches)))
+inside c w s some = ne_eqb (length c.outer) 0 (λ e. absurd (omega (arith, e, some, same-depth c.known c.scope c.outer c.abbrevs w.open_blocks s.matches)))
 
 widened : (c : Context) (w : Blocks) (id at : ℕ) (P : Form) (front : List Bool) → Same c w → (fixed_form (width_in w.open_blocks) id ⨾ P) at front → (fixed_form c.scope.width id ⨾ P) at front
-widened c w id at P front s h = rw (same-width c.scope c.outer c.abbrevs w.open_blocks s.matches) h
+widened c w id at P front s h = rw (same-width c.known c.scope c.outer c.abbrevs w.open_blocks s.matches) h
 
 -- the end of a block
 abbrev pub EndsWell : Context → ℕ → List Bool → Type 0
@@ -271,7 +346,7 @@ end-read c w at front rest s form (b, bs, is, words) =
           (inside c w s (rw is (omega arith))) (end-again c))
           front rest (widened c w 0 at pad_form front s form) (rw (block.begins, block.words) words);
       same = ends-same c w b bs s is;
-      shows = leaves-shown at c w (same-info c.scope c.outer c.abbrevs w.open_blocks s.matches);
+      shows = leaves-shown at c w (same-info c.known c.scope c.outer c.abbrevs w.open_blocks s.matches);
     }
 
 -- the beginning of a block
@@ -308,12 +383,12 @@ not_deep n low = by_test (nat_le 32 n) refl
 enter-read : (c : Context) (w : Blocks) (number width words at : ℕ) (front rest : List Bool) → Same c w → entry_form w (EnterBlock number width words) at front
     → Allowed w (at + length front) (length rest) (EnterBlock number width words) → IsRead c w (EnterBlock number width words) at front rest
 enter-read c w number width words at front rest s form (info, depth, small, low, high, room) =
-    let shallow : length c.outer < 32 = omega (arith, depth, same-depth c.scope c.outer c.abbrevs w.open_blocks s.matches) in
+    let shallow : length c.outer < 32 = omega (arith, depth, same-depth c.known c.scope c.outer c.abbrevs w.open_blocks s.matches) in
     record {
       item = enters_item number;
       after = entered_block at (opened_is number width words (at + length front)) c;
       read = entry-behind c at 1 (HasWords words) (λ n. (enters_item number, entered_block at (opened_is number width words n) c)) (opened_form number width words)
-          (enter-again at number width words c (same-info c.scope c.outer c.abbrevs w.open_blocks s.matches ∙ info) (not_deep (length c.outer) shallow) small low high)
+          (enter-again at number width words c (same-info c.known c.scope c.outer c.abbrevs w.open_blocks s.matches ∙ info) (not_deep (length c.outer) shallow) small low high)
           front rest (widened c w 1 at (opened_form number width words) front s form) room;
       same = entered-same at (at + length front) number width words c w s;
       shows = enters-shown at number;
@@ -342,8 +417,8 @@ defined-same : (c : Context) (w : Blocks) (ops : List AbbrevOp) → Same c w →
     → (n : ℕ) → Same (record c { abbrevs = c.abbrevs ++ ops ∷ [] }) (after_entry w n (Define ops))
 defined-same c w ops s some info n =
     let (b, bs, is) = some_block w.open_blocks some in
-    let m = with-matches c.scope c.outer c.abbrevs ops b bs (rw is at s.matches) in
-    let m' : Matches c.scope c.outer (c.abbrevs ++ ops ∷ []) (with_abbrev ops w.open_blocks) = rw is m in
+    let m = with-matches c.known c.scope c.outer c.abbrevs ops b bs (rw is at s.matches) in
+    let m' : Matches c.known c.scope c.outer (c.abbrevs ++ ops ∷ []) (with_abbrev ops w.open_blocks) = rw is m in
     rw info (record { matches = m'; defined = s.defined; named = s.named })
 
 known-defined : (c : Context) (w : Blocks) (number : ℕ) (ops : List AbbrevOp) → Same c w → in_info w.open_blocks ≡ true → w.named ≡ Some number
@@ -351,14 +426,15 @@ known-defined : (c : Context) (w : Blocks) (number : ℕ) (ops : List AbbrevOp) 
 known-defined c w number ops s info named n =
     let d : with_definition ops w.named w.defined ≡ map pair_of (c.known ++ record { block = number; definition = ops } ∷ [])
     = rw named (ap (λ l. l ++ (number, ops) ∷ []) s.defined ∙ sym (map-push c.known (record { block = number; definition = ops }))) in
-    rw info (record { matches = s.matches; defined = d; named = s.named })
+    let m = matches-stay c.known (record { block = number; definition = ops } ∷ []) c.scope c.outer c.abbrevs w.open_blocks s.matches in
+    rw info (record { matches = m; defined = d; named = s.named })
 
 define_by : (c : Context) (at : ℕ) (x : Option Seen × Context) (ops : List AbbrevOp) → (length c.outer == 0) ≡ false → Again (define_at at c) x (definition_form ops) → Again (entry_by at 2 c) x (definition_form ops)
 define_by c at x ops some h = again-unless-behind Anywhere (length c.outer == 0) (λ q. Err (OutsideBlock at)) (define_at at c) (λ n. x) (definition_form ops) some h
 
 define-read : (c : Context) (w : Blocks) (ops : List AbbrevOp) (at : ℕ) (front rest : List Bool) → Same c w → entry_form w (Define ops) at front
     → Allowed w (at + length front) (length rest) (Define ops) → IsRead c w (Define ops) at front rest
-define-read c w ops at front rest s form (some, may, names) = by_info (in_info w.open_blocks) refl (same-info c.scope c.outer c.abbrevs w.open_blocks s.matches)
+define-read c w ops at front rest s form (some, may, names) = by_info (in_info w.open_blocks) refl (same-info c.known c.scope c.outer c.abbrevs w.open_blocks s.matches)
   where
     by_info : (is : Bool) → in_info w.open_blocks ≡ is → (c.scope.block == 0) ≡ in_info w.open_blocks → IsRead c w (Define ops) at front rest
     by_info false t block = record {
@@ -415,7 +491,7 @@ by_abbrev-again at id code ops blob abbrev_ops c w j n front rest form t =
 id_is_not : (id k : ℕ) → 4 ≤ id → k < 4 → (id == k) ≡ false
 id_is_not id k high low = ne_eqb id k (λ e. absurd (omega (arith, high, low, e)))
 
-abbreviated-again : (at id : ℕ) (c : Context) (abbrev_ops : List AbbrevOp) (x : Option Seen × Context) (P : Form) → 4 ≤ id → (length c.outer == 0) ≡ false → slice_get c.abbrevs (c.scope.first + (id - 4)) ≡ Some abbrev_ops
+abbreviated-again : (at id : ℕ) (c : Context) (abbrev_ops : List AbbrevOp) (x : Option Seen × Context) (P : Form) → 4 ≤ id → (length c.outer == 0) ≡ false → abbrev_in c.scope c.known c.abbrevs (id - 4) ≡ Some abbrev_ops
     → Again (by_abbrev at id (Some abbrev_ops) c) x P → Again (entry_by at id c) x P
 abbreviated-again at id c abbrev_ops x P high some found more n front rest form t =
     rw (id_is_not id 1 high (lit< tt), some, id_is_not id 0 high (lit< tt), id_is_not id 2 high (lit< tt), id_is_not id 3 high (lit< tt), found) (more n front rest form t)
@@ -424,7 +500,7 @@ abbrev-read : (c : Context) (w : Blocks) (id code : ℕ) (ops : List ℕ) (blob 
     → Allowed w (at + length front) (length rest) (AbbrevRecord id code ops blob) → IsRead c w (AbbrevRecord id code ops blob) at front rest
 abbrev-read c w id code ops blob at front rest s (abbrev_ops, (high, found), form) (some, names) =
     let j = judged-again at code ops blob c w s names in
-    let known = same-abbrevs c.scope c.outer c.abbrevs w.open_blocks (id - 4) s.matches ∙ found in
+    let known = same-abbrevs c.known c.scope c.outer c.abbrevs w.open_blocks (id - 4) s.matches ∙ found in
     record {
       item = j.item;
       after = j.after;
@@ -455,7 +531,7 @@ spelled-with P Q p (Ok x) (front, is, same, at) o = (front, (is, o.1), same, at)
 spelled-with P Q p (Err e) h o = tt
 
 some_open : (c : Context) (w : Blocks) → Same c w → (length c.outer == 0) ≡ false → 0 < length w.open_blocks
-some_open c w s some = positive (length w.open_blocks) (λ e. eqb-false (length c.outer) 0 some (same-depth c.scope c.outer c.abbrevs w.open_blocks s.matches ∙ e))
+some_open c w s some = positive (length w.open_blocks) (λ e. eqb-false (length c.outer) 0 some (same-depth c.known c.scope c.outer c.abbrevs w.open_blocks s.matches ∙ e))
   where
     positive : (n : ℕ) → (n ≡ 0 → ⊥) → 0 < n
     positive zero h = absurd (h refl)
@@ -473,20 +549,20 @@ end-takes c w at one p s some id place =
       (one, two, id, moved pad_form _ _ two place pad, refl),
       (b, bs, is, rw (sym block.begins, sym block.words) (eqb-true _ _ t)),
       ends-same c w b bs s is,
-      leaves-shown at c w (same-info c.scope c.outer c.abbrevs w.open_blocks s.matches),
+      leaves-shown at c w (same-info c.known c.scope c.outer c.abbrevs w.open_blocks s.matches),
     )))
     (λ t. tt))
 
 enter-takes : (c : Context) (w : Blocks) (at : ℕ) (one : List Bool) (p : Place) → Same c w → WithId w 1 at one → p.at ≡ at + length one → Spelled (EntryTo w at one) p (enter_at at c p)
 enter-takes c w at one p s id place =
     let R = EntryTo w at one in
-    let info = same-info c.scope c.outer c.abbrevs w.open_blocks s.matches in
+    let info = same-info c.known c.scope c.outer c.abbrevs w.open_blocks s.matches in
     spelled-either R p (c.scope.block == 0) _ _ (λ t. tt) (λ block. spelled-either R p (nat_le 32 (length c.outer)) _ _ (λ t. tt) (λ shallow.
     spelled-then (OpenedIs p) R p _ (λ o. Ok (((if (o.0).block == 0 then None else Some (Enters (o.0).block)), entered_block at o.0 c), o.1)) (opened-spelled at p) (λ o two is at2.
     spelled-nothing (λ x q other. R x q (two ++ other)) (enters_item (o.0).block, entered_block at o.0 c) o.1 (rw (append-nil two) (
       EnterBlock (o.0).block (o.0).width (o.0).said,
       (one, two, id, moved (opened_form (o.0).block (o.0).width (o.0).said) _ _ two place is.0, refl),
-      (sym info ∙ block, omega (arith, leb-false 32 (length c.outer) shallow, same-depth c.scope c.outer c.abbrevs w.open_blocks s.matches), is.1, is.2, is.3, is.4),
+      (sym info ∙ block, omega (arith, leb-false 32 (length c.outer) shallow, same-depth c.known c.scope c.outer c.abbrevs w.open_blocks s.matches), is.1, is.2, is.3, is.4),
       subst (λ begins. Same (entered_block at (opened_is (o.0).block (o.0).width (o.0).said begins) c) (after_entry w (o.1).at (EnterBlock (o.0).block (o.0).width (o.0).said))) (sym is.5)
           (entered-same at (o.1).at (o.0).block (o.0).width (o.0).said c w s),
       enters-shown at (o.0).block,
@@ -500,8 +576,8 @@ definition-takes entered p = spelled-with (λ ops q front. definition_form ops p
 
 define-takes : (c : Context) (w : Blocks) (at : ℕ) (one : List Bool) (p : Place) → Same c w → (length c.outer == 0) ≡ false → WithId w 2 at one → p.at ≡ at + length one → Spelled (EntryTo w at one) p (define_at at c p)
 define-takes c w at one p s some id place = spelled-either (EntryTo w at one) p (c.scope.block == 0) _ _
-    (λ block. by_named c.named refl (sym (same-info c.scope c.outer c.abbrevs w.open_blocks s.matches) ∙ block))
-    (λ block. plain (sym (same-info c.scope c.outer c.abbrevs w.open_blocks s.matches) ∙ block))
+    (λ block. by_named c.named refl (sym (same-info c.known c.scope c.outer c.abbrevs w.open_blocks s.matches) ∙ block))
+    (λ block. plain (sym (same-info c.known c.scope c.outer c.abbrevs w.open_blocks s.matches) ∙ block))
   where
     plain : in_info w.open_blocks ≡ false → Spelled (EntryTo w at one) p (definition_at at p >>= (λ d. Ok ((None, record c { abbrevs = c.abbrevs ++ d.0 ∷ [] }), d.1)))
     plain info = spelled-then (DefinitionIs p) (EntryTo w at one) p _ (λ d. Ok ((None, record c { abbrevs = c.abbrevs ++ d.0 ∷ [] }), d.1)) (definition-takes at p) (λ d two is at2.
@@ -555,20 +631,20 @@ four_or_more (suc (suc (suc zero))) a b c d = absurd (eqb-false 3 3 d refl)
 four_or_more (suc (suc (suc (suc id)))) a b c d = omega arith
 
 abbrev-takes : (c : Context) (w : Blocks) (at id : ℕ) (one : List Bool) (p start : Place) → Same c w → IsSound c start → (length c.outer == 0) ≡ false → 4 ≤ id → WithId w id at one → p.at ≡ at + length one
-    → (found : Option (List AbbrevOp)) → slice_get c.abbrevs (c.scope.first + (id - 4)) ≡ found → Spelled (EntryTo w at one) p (by_abbrev at id found c p)
+    → (found : Option (List AbbrevOp)) → abbrev_in c.scope c.known c.abbrevs (id - 4) ≡ found → Spelled (EntryTo w at one) p (by_abbrev at id found c p)
 abbrev-takes c w at id one p start s sound some high is place None found = tt
 abbrev-takes c w at id one p start s sound some high is place (Some ops) found =
     spelled-then (ValuesAre ops p) (EntryTo w at one) p _ (λ v. judged_values at (v.0).numbers (v.0).blob c v.1) (values-spelled ops p (definition_rest ops may_be)) (λ v two form at2. by_numbers v.1 (v.0).numbers (v.0).blob two form)
   where
     may_be : is_definition ops ≡ true
-    may_be = (found-sound start.at (c.scope.first + (id - 4)) c.abbrevs sound.abbrevs ops found).may_be
+    may_be = (found-sound (id - 4) c start sound ops found).may_be
 
     by_numbers : (q : Place) (numbers : List ℕ) (blob : Option (List ℕ)) (two : List Bool) → values_form ops numbers blob p.at two → Spelled (λ x r other. EntryTo w at one x r (two ++ other)) q (judged_values at numbers blob c q)
     by_numbers q [] blob two form = absurd (no_numbers ops blob p.at two may_be form)
     by_numbers q (code ∷ numbers) blob two form =
         spelled-weaker (JudgedSo at code numbers blob w) (λ x r other. EntryTo w at one x r (two ++ other)) q _ (judged-spelled at code numbers blob c w q s) (λ x r other at3 j. rw (j.0, append-nil two) (
           AbbrevRecord id code numbers blob,
-          (ops, (high, sym (same-abbrevs c.scope c.outer c.abbrevs w.open_blocks (id - 4) s.matches) ∙ found), (one, two, is, moved (values_form ops (code ∷ numbers) blob) _ _ two place form, refl)),
+          (ops, (high, sym (same-abbrevs c.known c.scope c.outer c.abbrevs w.open_blocks (id - 4) s.matches) ∙ found), (one, two, is, moved (values_form ops (code ∷ numbers) blob) _ _ two place form, refl)),
           (some_open c w s some, j.1),
           j.2,
           j.3,
@@ -582,9 +658,9 @@ entry_by-takes c w at id one p start s sound is place =
     (λ some. spelled-either R p (id == 0) _ _ (λ t. end-takes c w at one p s some (rw (eqb-true id 0 t) at is) place)
     (λ not_end. spelled-either R p (id == 2) _ _ (λ t. define-takes c w at one p s some (rw (eqb-true id 2 t) at is) place)
     (λ not_define. spelled-either R p (id == 3) _ _ (λ t. plain-takes c w at one p s some (rw (eqb-true id 3 t) at is) place)
-    (λ not_plain. abbrev-takes c w at id one p start s sound some (four_or_more id not_enter not_end not_define not_plain) is place (slice_get c.abbrevs (c.scope.first + (id - 4))) refl)))))
+    (λ not_plain. abbrev-takes c w at id one p start s sound some (four_or_more id not_enter not_end not_define not_plain) is place (abbrev_in c.scope c.known c.abbrevs (id - 4)) refl)))))
 
 pub entry-takes : (c : Context) (w : Blocks) (p : Place) → Same c w → IsSound c p → Spelled (EntryTo w p.at []) p (entry_at c p)
 entry-takes c w p s sound =
     spelled-then (λ n q front. fixed_form c.scope.width n p.at front) (EntryTo w p.at []) p _ (λ id. entry_by p.at id.0 c id.1) (fixed-spelled c.scope.width p) (λ id one is at.
-    entry_by-takes c w p.at id.0 one id.1 p s sound (rw (same-width c.scope c.outer c.abbrevs w.open_blocks s.matches) at is) at)
+    entry_by-takes c w p.at id.0 one id.1 p s sound (rw (same-width c.known c.scope c.outer c.abbrevs w.open_blocks s.matches) at is) at)

@@ -1,10 +1,10 @@
 -- The next item, entry by entry.
-use Rattle.std.proofs.Common.{◌≡◌, ℕ, suc, ◌+◌, ◌-◌, ◌<◌, true, false, List, [], ◌∷◌, length, drop, get_or, ◌==◌, arith, refl, sym, Ok, Err, Result, Some, None, Option}
-use Rattle.std.specs.Prelude.{slice_get}
+use Rattle.std.proofs.Common.{◌≡◌, ℕ, suc, ◌-◌, ◌<◌, true, false, List, [], ◌∷◌, length, drop, get_or, ◌==◌, arith, refl, sym, Ok, Err, Result, Some, None, Option}
 use Rattle.bitstream.specs.declared.item.BitFault.{BitFault}
 use Rattle.bitstream.specs.declared.item.AbbrevOp.{AbbrevOp}
 use Rattle.bitstream.specs.Fields.{Place}
 use Rattle.bitstream.specs.Stream.{values_at, behind_numbers, Values}
+use Rattle.bitstream.specs.Scopes.{abbrev_in}
 use Rattle.bitstream.specs.Reading.{Context, Seen, at_end, entry_at, next_at, judged, abbreviated_at}
 
 pub next-some : (n left : ℕ) (c after : Context) (p q : Place) (s : Seen) → left ≡ suc n → at_end c p ≡ false → entry_at c p ≡ Ok ((Some s, after), q)
@@ -23,12 +23,12 @@ behind-none (Ok r) = refl
 behind-none (Err e) = refl
 
 pub abbreviated-is : (at id : ℕ) (c : Context) (p q : Place) (ops : List AbbrevOp) (code : ℕ) (numbers rest : List ℕ) (blob : Option (List ℕ))
-    → slice_get c.abbrevs (c.scope.first + (id - 4)) ≡ Some ops → values_at ops p ≡ Ok (record { numbers = numbers; blob = blob }, q) → numbers ≡ code ∷ rest
+    → abbrev_in c.scope c.known c.abbrevs (id - 4) ≡ Some ops → values_at ops p ≡ Ok (record { numbers = numbers; blob = blob }, q) → numbers ≡ code ∷ rest
     → abbreviated_at at id c p ≡ judged at code rest blob c q
 abbreviated-is at id c p q ops code numbers rest blob found is numbers-is = rw (found, is, numbers-is) refl
 
 pub abbreviated-none : (at id : ℕ) (c : Context) (p q : Place) (ops : List AbbrevOp) (numbers : List ℕ) (blob : Option (List ℕ))
-    → slice_get c.abbrevs (c.scope.first + (id - 4)) ≡ Some ops → values_at ops p ≡ Ok (record { numbers = numbers; blob = blob }, q) → numbers ≡ []
+    → abbrev_in c.scope c.known c.abbrevs (id - 4) ≡ Some ops → values_at ops p ≡ Ok (record { numbers = numbers; blob = blob }, q) → numbers ≡ []
     → abbreviated_at at id c p ≡ judged at 0 numbers blob c q
 abbreviated-none at id c p q ops numbers blob found is numbers-is = rw (found, is, numbers-is) refl
 

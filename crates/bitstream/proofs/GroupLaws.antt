@@ -1,7 +1,7 @@
 -- A vbr, group by group.
 use Rattle.std.proofs.Common.{◌≡◌, ℕ, zero, suc, ◌+◌, ◌*◌, ◌-◌, ◌%◌, ◌^◌, ◌<◌, ◌≤◌, Bool, true, false, List, [], ◌∷◌, length, take, drop, bit_and, refl, sym, ◌∙◌, ap, arith, length-drop, le-ltb, lt-ltb, ltb-false, ltb-true, nat_lt, Ok, Err, Result}
-use Rattle.std.proofs.lemmas.Nat.{pow-add, mod_low, mod_below, pow_pos, mul-add-lt, and_mask, one_shl}
-use Rattle.std.proofs.Math.Nat.{mod-eq_of_lt}
+use Rattle.std.proofs.lemmas.Nat.{pow-add, mod_low, mod_below, pow_pos, mul-add-lt, and_mask, one_shl, shl_whole}
+use Rattle.std.proofs.Math.Nat.{mod-eq_of_lt, pow-le-pow_right, mul_comm}
 use Rattle.bitstream.proofs.BitLaws.{two_pow}
 use Rattle.std.proofs.lemmas.List.{drop-drop}
 use Rattle.bitstream.specs.declared.item.BitFault.{BitFault}
@@ -145,3 +145,21 @@ pub more-low : (w sum shift more d : ℕ) (g : ℕ) → d ≡ g % 2 ^ (w - 1) �
 more-low w sum shift more d g d-is more-is low =
     let small : d < 2 ^ (w - 1) = rw d-is (mod_below g (2 ^ (w - 1)) (pow_pos (w - 1))) in
     omega (arith, more-is, mul-add-lt d (2 ^ shift) sum (2 ^ (w - 1)) small low, pow-add 2 shift (w - 1))
+
+-- a digit more in a sum of few bits
+pub record NearStep (w sum shift d more : ℕ) : Type 0 where
+  pub is : more ≡ sum + 2 ^ shift * d
+  pub low : more < 2 ^ (shift + (w - 1))
+  pub fits : more < 2 ^ 64
+
+pub near-step : (w sum shift d g : ℕ) → d ≡ g % 2 ^ (w - 1) → shift + (w - 1) ≤ 56 → sum < 2 ^ shift → NearStep w sum shift d (sum + d * 2 ^ shift % 2 ^ 64)
+near-step w sum shift d g d-is few low =
+    let small : d < 2 ^ (w - 1) = rw d-is (mod_below g (2 ^ (w - 1)) (pow_pos (w - 1))) in
+    let whole : d * 2 ^ shift % 2 ^ 64 ≡ d * 2 ^ shift = shl_whole d (w - 1) shift 64 small (omega (arith, few)) in
+    let is : sum + d * 2 ^ shift % 2 ^ 64 ≡ sum + 2 ^ shift * d = omega (arith, whole, mul_comm d (2 ^ shift)) in
+    let below = more-low w sum shift (sum + d * 2 ^ shift % 2 ^ 64) d g d-is is low in
+    record {
+      is = is;
+      low = below;
+      fits = omega (arith, below, pow-le-pow_right {n = 2} (omega arith) {i = shift + (w - 1)} {j = 64} (omega (arith, few)));
+    }

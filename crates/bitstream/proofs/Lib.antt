@@ -6,6 +6,7 @@ pub mod FieldLaws
 pub mod FormLaws
 pub mod GroupLaws
 pub mod ItemLaws
+pub mod KnownLaws
 pub mod LeadLaws
 pub mod LevelLaws
 pub mod ListLaws

@@ -1,15 +1,16 @@
 -- The contexts that a reader comes to, entry by entry.
 use Rattle.std.proofs.Common.{◌≡◌, ℕ, ◌+◌, ◌-◌, ◌/◌, ◌%◌, ◌^◌, ◌<◌, ◌≤◌, ◌==◌, Bool, true, false, List, [], ◌∷◌, ◌++◌, length, refl, subst, arith, nat_lt, nat_le, slice_get, slice_index_or, All, Some, None, Option, if◌then◌else◌}
 use Rattle.std.proofs.lemmas.Option.{slice_get_within, get_or_from_slice_get}
-use Rattle.std.proofs.lemmas.List.Elements.{All-push, All-append, All-take, recursion_from_All, All-from_recursion}
+use Rattle.std.proofs.lemmas.List.Elements.{All-push, All-take, recursion_from_All, All-from_recursion}
 use Rattle.std.specs.List.{AllByRecursion as ByRecursion}
 use Rattle.bitstream.specs.declared.item.AbbrevOp.{AbbrevOp}
 use Rattle.bitstream.specs.declared.item.AbbrevOp.TheVariants.{Vbr}
 use Rattle.bitstream.specs.declared.cursor.Opened.{Opened}
-use Rattle.bitstream.specs.declared.entry_reader.Known.{Known}
+use Rattle.bitstream.specs.declared.known.Known.{Known}
 use Rattle.bitstream.specs.declared.entry_reader.Scope.{Scope}
 use Rattle.bitstream.specs.Fields.{Place}
 use Rattle.bitstream.specs.Known.{known_for}
+use Rattle.bitstream.specs.Scopes.{abbrev_in}
 use Rattle.bitstream.specs.Reading.{Seen, Enters, Leaves, Record, Ends, Context, shown_in, left_block, end_at, entered_block, enter_at, defined_for, define_at, named_by, judged, plain_at, judged_values, by_abbrev, entry_by, entry_at}
 use Rattle.bitstream.specs.Items.{IsReadBefore, IsSound}
 use Rattle.bitstream.proofs.OnwardLaws.{Behind, Onward, same_place, further, and_then, either, weaker, Any, fixed-onward, vbr-onward, align-onward, NoMore, numbers-onward, FewValues, values-onward, definition_rest, IsDefinition, definition-onward, opened-onward}
@@ -76,8 +77,7 @@ entered-sound : (at : ℕ) (o : Opened) (c : Context) (p : Place) → 2 ≤ o.wi
 entered-sound at o c p wide s = record {
   id_bits = omega (arith, wide);
   outer_id_bits = All-push (λ s. 0 < s.width) c.outer c.scope s.outer_id_bits s.id_bits;
-  abbrevs = All-append (IsReadBefore p.at) c.abbrevs (known_for o.block c.known) s.abbrevs
-      (All-from_recursion (IsReadBefore p.at) (known_for o.block c.known) (known-sound p.at o.block c.known (recursion_from_All (λ k. IsReadBefore p.at k.definition) c.known s.known)));
+  abbrevs = s.abbrevs;
   known = s.known;
 }
 
@@ -147,8 +147,18 @@ by_abbrev-onward at id (Some ops) c p h s = let known = h ops refl in
     and_then (FewValues ops p) Stepped p _ _ (values-onward ops p (definition_rest ops known.may_be)) (λ v b few.
     judged_values-onward at (v.0).numbers (v.0).blob c v.1 (omega (arith, few, known.few)) (sound-later c p v.1 b s))
 
-pub found-sound : (at k : ℕ) (abbrevs : List (List AbbrevOp)) → All (IsReadBefore at) abbrevs → (ops : List AbbrevOp) → slice_get abbrevs k ≡ Some ops → IsReadBefore at ops
-found-sound at k abbrevs all ops is = subst (IsReadBefore at) (get_or_from_slice_get abbrevs k ops ops is) (all k ops (slice_get_within abbrevs k ops is))
+in-sound : (at k : ℕ) (abbrevs : List (List AbbrevOp)) → All (IsReadBefore at) abbrevs → (ops : List AbbrevOp) → slice_get abbrevs k ≡ Some ops → IsReadBefore at ops
+in-sound at k abbrevs all ops is = subst (IsReadBefore at) (get_or_from_slice_get abbrevs k ops ops is) (all k ops (slice_get_within abbrevs k ops is))
+
+pub found-sound : (k : ℕ) (c : Context) (p : Place) → IsSound c p → (ops : List AbbrevOp) → abbrev_in c.scope c.known c.abbrevs k ≡ Some ops → IsReadBefore p.at ops
+found-sound k c p s ops is = by_known (nat_lt k c.scope.known) refl
+  where
+    defined : All (IsReadBefore p.at) (known_for c.scope.block c.known)
+    defined = All-from_recursion (IsReadBefore p.at) (known_for c.scope.block c.known) (known-sound p.at c.scope.block c.known (recursion_from_All (λ k. IsReadBefore p.at k.definition) c.known s.known))
+
+    by_known : (low : Bool) → nat_lt k c.scope.known ≡ low → IsReadBefore p.at ops
+    by_known true t = in-sound p.at k (known_for c.scope.block c.known) defined ops (rw t at is)
+    by_known false t = in-sound p.at (c.scope.first + (k - c.scope.known)) c.abbrevs s.abbrevs ops (rw t at is)
 
 pub entry_by-onward : (at id : ℕ) (c : Context) (p : Place) → IsSound c p → Onward Stepped p (entry_by at id c p)
 entry_by-onward at id c p s =
@@ -157,7 +167,7 @@ entry_by-onward at id c p s =
     (λ some. either Stepped p (id == 0) _ _ (λ t. end-onward c p some s)
     (λ t. either Stepped p (id == 2) _ _ (λ t. define-onward at c p s)
     (λ t. either Stepped p (id == 3) _ _ (λ t. plain-onward at c p s)
-    (λ t. by_abbrev-onward at id (slice_get c.abbrevs (c.scope.first + (id - 4))) c p (found-sound p.at (c.scope.first + (id - 4)) c.abbrevs s.abbrevs) s)))))
+    (λ t. by_abbrev-onward at id (abbrev_in c.scope c.known c.abbrevs (id - 4)) c p (found-sound (id - 4) c p s) s)))))
 
 -- An entry takes a bit at least.
 abbrev pub EntryIs : Place → Option Seen × Context → Place → Type 0

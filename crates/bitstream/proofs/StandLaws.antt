@@ -66,7 +66,7 @@ takes-all (suc n) c w p items s sound is =
     by_end true t later =
         let outer : length c.outer ≡ 0 = eqb-true (length c.outer) 0 (and_left (length c.outer == 0) (length p.bits == 0) t) in
         let none : length p.bits ≡ 0 = eqb-true (length p.bits) 0 (and_right (length c.outer == 0) (length p.bits == 0) t) in
-        let depth : length w.open_blocks ≡ 0 = sym (same-depth c.scope c.outer c.abbrevs w.open_blocks s.matches) ∙ outer in
+        let depth : length w.open_blocks ≡ 0 = sym (same-depth c.known c.scope c.outer c.abbrevs w.open_blocks s.matches) ∙ outer in
         let h = rw t at is in
         ([], (no_elements w.open_blocks depth, no_elements p.bits none, sym (ap (λ x. x.0) h)))
     by_end false t later = by_entry (entry_at c p) refl (rw t at is) (entry-takes c w p s sound) later
@@ -96,7 +96,7 @@ again-step c w e at front rest later sound r more =
 pub again-all : (es : List Entry) (c : Context) (w : Blocks) (at : ℕ) (bs : List Bool) (items : List (ℕ × Seen)) → Same c w → IsSound c (at_bits at bs) → AreEntries w at es bs items
     → items_at (left_at (at_bits at bs)) c (at_bits at bs) ≡ (items, None)
 again-all [] c w at bs items s sound (none, bs-is, items-is) =
-    let depth : length c.outer ≡ 0 = same-depth c.scope c.outer c.abbrevs w.open_blocks s.matches ∙ ap length none in
+    let depth : length c.outer ≡ 0 = same-depth c.known c.scope c.outer c.abbrevs w.open_blocks s.matches ∙ ap length none in
     let last : at_end c (at_bits at bs) ≡ true = rw (depth, bs-is) refl in
     items-end c (at_bits at bs) sound last ∙ ap (λ l. (l, None)) (sym items-is)
 again-all (e ∷ es) c w at bs items s sound (front, rest, later, form, may, more, bs-is, items-is) =
@@ -106,7 +106,7 @@ again-all (e ∷ es) c w at bs items s sound (front, rest, later, form, may, mor
     rw (bs-is, items-is) (again-step c w e at front rest later sound' r (again-all es r.after (after_entry w (at + length front) e) (at + length front) rest later r.same behind more))
 
 outside-same : Same outside no_blocks
-outside-same = record { matches = (refl, refl, refl, refl); defined = refl; named = refl }
+outside-same = record { matches = (refl, refl, refl, refl, refl); defined = refl; named = refl }
 
 -- What a reader gives to the end is what the bytes stand for.
 pub read-stands : (bytes : List ℕ) (items : List (ℕ × Seen)) → items_in bytes ≡ (items, None) → StandFor bytes items

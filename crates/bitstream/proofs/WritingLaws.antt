@@ -18,6 +18,11 @@ joined-is pending count value width few low narrow fits =
 pub joined-fits : (pending count value width : ℕ) → pending < 2 ^ count → value < 2 ^ width → value * 2 ^ count + pending < 2 ^ (count + width)
 joined-fits pending count value width low fits = omega (arith, mul-add-lt value (2 ^ count) pending (2 ^ width) fits low, pow-add 2 count width)
 
+pub packed-is : (pending count value width : ℕ) → pending < 2 ^ count → value < 2 ^ width → count + width ≤ 64
+    → bit_or (value * 2 ^ count % 2 ^ 64) pending ≡ value * 2 ^ count + pending
+packed-is pending count value width low fits room =
+    rw (shl_whole value width count 64 fits (omega (arith, room))) (or_shifted value count pending low)
+
 byte-mod : (x : ℕ) → byte_bits (x % 256) ≡ bits 8 x
 unfolding byte_bits
 byte-mod x = bits-mod 8 x
@@ -103,6 +108,14 @@ nothing_waits : (bytes : List ℕ) (count pending : ℕ) → count ≡ 0 → wri
 unfolding written_of
 nothing_waits bytes zero pending e = append-nil (bits_of bytes)
 nothing_waits bytes (suc k) pending e = absurd (omega (arith, e))
+
+-- whole words of bytes go out, where nothing waits
+pub words_added : (old new words rest : List ℕ) (k : ℕ) (bytes : List ℕ) (count pending : ℕ) → count ≡ 0 → new ≡ old ++ words → words ≡ take k bytes → rest ≡ drop k bytes
+    → written_of new count pending ++ bits_of rest ≡ written_of old count pending ++ bits_of bytes
+words_added old new words rest k bytes count pending none new-is words-is rest-is =
+    let joined : bits_of words ++ bits_of rest ≡ bits_of bytes = rw (words-is, rest-is) (sym (flat_map-append byte_bits (take k bytes) (drop k bytes)) ∙ ap bits_of (take-append-drop k bytes)) in
+    ap (λ s. s ++ bits_of rest) (nothing_waits new count pending none ∙ ap bits_of new-is ∙ flat_map-append byte_bits old words) ∙ append_assoc (bits_of old) (bits_of words) (bits_of rest)
+    ∙ ap (λ s. bits_of old ++ s) joined ∙ ap (λ s. s ++ bits_of bytes) (sym (nothing_waits old count pending none))
 
 take-bytes : (k : ℕ) (bytes : List ℕ) → k ≤ length bytes → take (8 * k) (bits_of bytes) ≡ bits_of (take k bytes)
 take-bytes k bytes within =

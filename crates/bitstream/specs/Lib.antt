@@ -7,6 +7,7 @@ pub mod Items
 pub mod Known
 pub mod Reader
 pub mod Reading
+pub mod Scopes
 pub mod Spelling
 pub mod Stands
 pub mod Stream

@@ -1,5 +1,5 @@
 -- What a reader answers, and where it stands behind the answer.
-use Rattle.std.specs.Prelude.{◌≡◌, ◌≢◌, ℕ, zero, suc, ◌+◌, ◌-◌, ◌/◌, ◌%◌, ◌^◌, ◌==◌, ◌&&◌, nat_lt, nat_le, if◌then◌else◌, Bool, List, [], ◌∷◌, ◌++◌, length, take, slice_index_or, slice_get, Option, Some, None, Result, Ok, Err}
+use Rattle.std.specs.Prelude.{◌≡◌, ◌≢◌, ℕ, zero, suc, ◌+◌, ◌-◌, ◌/◌, ◌%◌, ◌^◌, ◌==◌, ◌&&◌, nat_lt, nat_le, if◌then◌else◌, Bool, List, [], ◌∷◌, ◌++◌, length, take, slice_index_or, Option, Some, None, Result, Ok, Err}
 use Rattle.bitstream.specs.declared.item.BitFault.{BitFault}
 use Rattle.bitstream.specs.declared.item.BitFault.TheVariants.{UnknownAbbrev, BadOperands, BadBlockLength, OutsideBlock, TooDeep, NoMemory}
 use Rattle.bitstream.specs.declared.item.AbbrevOp.{AbbrevOp}
@@ -8,11 +8,12 @@ use Rattle.bitstream.specs.declared.item.Item.{Item}
 use Rattle.bitstream.specs.declared.item.Item.TheVariants.{Enter, Leave, Rec, End}
 use Rattle.bitstream.specs.declared.cursor.Opened.{Opened}
 use Rattle.bitstream.specs.declared.entry_reader.EntryReader.{EntryReader}
-use Rattle.bitstream.specs.declared.entry_reader.Known.{Known}
+use Rattle.bitstream.specs.declared.known.Known.{Known}
 use Rattle.bitstream.specs.declared.entry_reader.Scope.{Scope}
 use Rattle.bitstream.specs.Fields.{Place, place, fixed_at, vbr_at, ◌>>=◌}
 use Rattle.bitstream.specs.Stream.{align_at, opened_at, definition_at, numbers_at, values_at, slice_seen}
 use Rattle.bitstream.specs.Known.{known_for}
+use Rattle.bitstream.specs.Scopes.{abbrev_in}
 
 -- An item, with a blob as the list of its bytes.
 pub data Seen : Type 0 where
@@ -32,7 +33,7 @@ option_seen (Some item) = Some (seen item)
 option_seen None = None
 
 -- The innermost open block, and the outer ones, the innermost last, with what stands outside all blocks first; the
--- abbreviations of the open blocks; what BLOCKINFO defined so far; and the block that it named last.
+-- abbreviations that the open blocks define themselves; what BLOCKINFO defined so far; and the block that it named last.
 pub record Context : Type 0 where
   pub scope : Scope
   pub outer : List Scope
@@ -41,11 +42,11 @@ pub record Context : Type 0 where
   pub named : Option ℕ
 
 abbrev pub context : EntryReader → Context
-context r = record { scope = r.scope; outer = r.outer.items; abbrevs = r.abbrevs.items; known = r.known.items; named = r.named }
+context r = record { scope = r.scope; outer = r.outer.items; abbrevs = r.abbrevs.items; known = r.known.all.items; named = r.named }
 
 -- outside all blocks ids have two bits
 abbrev pub outside : Context
-outside = record { scope = record { entered = 0; block = 1; width = 2; first = 0; begins = 0; said = 0 }; outer = []; abbrevs = []; known = []; named = None }
+outside = record { scope = record { entered = 0; block = 1; width = 2; first = 0; known = 0; begins = 0; said = 0 }; outer = []; abbrevs = []; known = []; named = None }
 
 -- a reader stands at a place in a context, or it met a fault; and the first bit of the last item
 pub data Reading : Type 0 where
@@ -86,12 +87,12 @@ end_at c p = do
   q ← align_at p
   if ((q.1).at - c.scope.begins) / 32 % 2 ^ 32 == c.scope.said then Ok ((shown_in c Leaves, left_block c), q.1) else Err (BadBlockLength c.scope.entered c.scope.said)
 
--- a block begins, with what BLOCKINFO defined for it
+-- a block begins, with what BLOCKINFO defined for it so far
 abbrev pub entered_block : ℕ → Opened → Context → Context
 entered_block at o c = record {
-  scope = record { entered = at; block = o.block; width = o.width; first = length c.abbrevs; begins = o.begins; said = o.said };
+  scope = record { entered = at; block = o.block; width = o.width; first = length c.abbrevs; known = length (known_for o.block c.known); begins = o.begins; said = o.said };
   outer = c.outer ++ c.scope ∷ [];
-  abbrevs = c.abbrevs ++ known_for o.block c.known;
+  abbrevs = c.abbrevs;
   known = c.known;
   named = None;
 }
@@ -143,7 +144,7 @@ by_abbrev at id (Some ops) c p = do
 
 -- a record at `at`, behind its id, by an abbreviation of the open block
 abbrev pub abbreviated_at : ℕ → ℕ → Context → Place → Result ((Option Seen × Context) × Place) BitFault
-abbreviated_at at id c p = by_abbrev at id (slice_get c.abbrevs (c.scope.first + (id - 4))) c p
+abbreviated_at at id c p = by_abbrev at id (abbrev_in c.scope c.known c.abbrevs (id - 4)) c p
 
 -- the entry at `at` that has the id
 abbrev pub entry_by : ℕ → ℕ → Context → Place → Result ((Option Seen × Context) × Place) BitFault

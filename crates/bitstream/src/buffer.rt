@@ -1,10 +1,10 @@
 //! Bits on their way to bytes.
 
-ghost use Rattle.std.specs.Prelude.{◌≡◌, ◌≤◌, ◌*◌, ◌+◌, ◌%◌, ◌^◌, ◌<◌, ◌++◌, [], length, take, drop, map, OnOk, OnErr};
+ghost use Rattle.std.specs.Prelude.{◌≡◌, ◌≤◌, ◌*◌, ◌+◌, ◌%◌, ◌^◌, ◌<◌, ◌++◌, [], length, take, drop, OnOk, OnErr};
 ghost use Rattle.std.specs.List.{flat_map};
 ghost use Rattle.std.specs.Int.{w32, to_le_bytes};
 ghost use Rattle.bitstream.specs.Bits.{bits, bits_of};
-ghost use Rattle.bitstream.specs.Writing.{written_of, vbr_bits, op_bits, aligned, with_field, Grows};
+ghost use Rattle.bitstream.specs.Writing.{written_of, op_bits, aligned, with_field, Grows};
 
 use crate::{AbbrevOp, NoMemory, Text};
 use std::alloc::Global;
@@ -112,39 +112,8 @@ impl BitBuffer {
         Ok(())
     }
 
-    pub fn push_vbr(&mut self, value: u64, width: u32) -> Result<(), NoMemory>
-        requires low { 2 ≤ width }
-        requires high { width ≤ 32 }
-        ensures ok { OnOk result (bits_in self.new ≡ bits_in self.old ++ vbr_bits width value) }
-        ensures kept { Grows self.old.bytes.items self.new.bytes.items }
-    {
-        let low = width - 1;
-        let top = 1u64 << low;
-        let mut rest = value;
-        'each: while rest >= top {
-            if let Err(error) = self.push_bits(top + rest % top, width) {
-                return Err(error);
-            }
-            rest >>= low;
-        }
-        self.push_bits(rest, width)
-    }
-
-    pub fn push_vbrs(&mut self, numbers: &[u64], width: u32) -> Result<(), NoMemory>
-        requires low { 2 ≤ width }
-        requires high { width ≤ 32 }
-        ensures ok { OnOk result (bits_in self.new ≡ bits_in self.old ++ flat_map (vbr_bits width) numbers.now) }
-        ensures kept { Grows self.old.bytes.items self.new.bytes.items }
-    {
-        for &number in numbers {
-            if let Err(error) = self.push_vbr(number, width) {
-                return Err(error);
-            }
-        }
-        Ok(())
-    }
-
-    pub fn push_bytes(&mut self, bytes: &[u8]) -> Result<(), NoMemory>
+    /// Adds bytes one by one.
+    fn push_each(&mut self, bytes: &[u8]) -> Result<(), NoMemory>
         ensures ok { OnOk result (bits_in self.new ≡ bits_in self.old ++ bits_of bytes.now) }
         ensures kept { Grows self.old.bytes.items self.new.bytes.items }
     {
@@ -154,6 +123,21 @@ impl BitBuffer {
             }
         }
         Ok(())
+    }
+
+    /// Adds bytes, whole words of them at once where no bits wait.
+    pub fn push_bytes(&mut self, bytes: &[u8]) -> Result<(), NoMemory>
+        ensures ok { OnOk result (bits_in self.new ≡ bits_in self.old ++ bits_of bytes.now) }
+        ensures kept { Grows self.old.bytes.items self.new.bytes.items }
+    {
+        if self.count > 0 {
+            return self.push_each(bytes);
+        }
+        let (words, rest) = bytes.split_at(bytes.len() / 4 * 4);
+        if let Err(_) = self.bytes.extend_from_slice(words) {
+            return Err(NoMemory);
+        }
+        self.push_each(rest)
     }
 
     fn push_encoding(&mut self, encoding: u64) -> Result<(), NoMemory>

@@ -68,6 +68,7 @@ impl<'b> Cursor<'b> {
         8 * self.bytes.len() as u128 - self.at
     }
 
+    #[inline(always)]
     pub fn fixed(&mut self, width: u32) -> Result<u64, BitFault>
         requires { width ≤ 64 }
         ensures read { Gives (here self.new) result (fixed_at width (here self.old)) }
@@ -82,6 +83,7 @@ impl<'b> Cursor<'b> {
         }
     }
 
+    #[inline(always)]
     pub fn vbr(&mut self, width: u32) -> Result<u64, BitFault>
         requires { width ≤ 32 }
         ensures { Gives (here self.new) result (vbr_at width (here self.old)) }
@@ -135,6 +137,7 @@ impl<'b> Cursor<'b> {
     }
 
     /// A number that an operand of an abbreviation stands for; none stands for an array or a blob.
+    #[inline(always)]
     #[tactic(auto, unfolding(crate::specs::Stream::scalar_at))]
     pub fn scalar(&mut self, op: AbbrevOp) -> Result<u64, BitFault>
         requires { IsTrue (has_width op) }

@@ -1,8 +1,7 @@
-ghost use Rattle.std.specs.Prelude.{◌≡◌, All, IfOk, IsTrue};
+ghost use Rattle.std.specs.Prelude.{◌≡◌, All, IsTrue};
 ghost use Rattle.bitstream.specs.Stream.{has_width};
 
 use crate::AbbrevOp;
-use std::alloc::{AllocError, Global};
 use std::marker::Model;
 
 /// The operands of a definition that was read, which contracts see as their list.
@@ -29,13 +28,6 @@ impl Definition {
         ensures { result ≡ ops.items }
     {
         Definition { ops }
-    }
-
-    pub fn copy(&self, alloc: Global) -> Result<Definition, AllocError>
-        ensures { IfOk result (λ made. made ≡ self.now) }
-    {
-        let ops = self.ops.as_slice().to_vec(alloc)?;
-        Ok(Definition { ops })
     }
 
     pub fn as_slice(&self) -> &[AbbrevOp]

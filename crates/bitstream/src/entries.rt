@@ -7,6 +7,7 @@ ghost use Rattle.bitstream.specs.Written.{OperandsFit};
 ghost use Rattle.bitstream.specs.Entries.{end_bits, enter_bits, definition_bits, record_bits, blob_bits};
 
 use crate::buffer::BitBuffer;
+use crate::packed::Packed;
 use crate::{AbbrevOp, NoMemory};
 
 impl BitBuffer {
@@ -68,10 +69,12 @@ impl BitBuffer {
         ensures count { OnOk result (length ops.now < 2 ^ 64) }
         ensures kept { Grows self.old.bytes.items self.new.bytes.items }
     {
-        self.push_bits(3, id_width)?;
-        self.push_vbr(code, 6)?;
-        self.push_vbr(ops.len() as u64, 6)?;
-        self.push_vbrs(ops, 6)
+        let packed = Packed::new(3, id_width);
+        let packed = self.pack_vbr(packed, code, 6)?;
+        let packed = self.pack_vbr(packed, ops.len() as u64, 6)?;
+        let packed = self.pack_vbrs(packed, ops, 6)?;
+        self.push_packed(packed)?;
+        Ok(())
     }
 
     /// A record by an abbreviation that has a blob behind literals.

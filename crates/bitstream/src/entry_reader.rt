@@ -1,58 +1,54 @@
-ghost use Rattle.std.specs.Prelude.{◌≡◌, ◌≤◌, ◌*◌, ◌<◌, ◌++◌, All, length, OnOk};
+ghost use Rattle.std.specs.Prelude.{◌≡◌, ◌≤◌, ◌*◌, ◌-◌, ◌<◌, All, length, IfSome, IsTrue};
+ghost use Rattle.std.specs.Option.{option_copied};
 ghost use Rattle.bitstream.specs.Fields.{fixed_at, vbr_at};
-ghost use Rattle.bitstream.specs.Stream.{slice_seen};
-ghost use Rattle.bitstream.specs.Known.{known_for};
+ghost use Rattle.bitstream.specs.Stream.{slice_seen, has_width};
+ghost use Rattle.bitstream.specs.Scopes.{abbrev_in};
 
 use crate::cursor::Cursor;
 use crate::definition::Definition;
-use crate::{AbbrevOp, BitFault, Item, NoMemory, Operands};
+use crate::known::KnownDefinitions;
+use crate::{AbbrevOp, BitFault, Item, Operands};
 use std::alloc::Global;
 
 /// A block that is open: the bit of its ENTER, its number, the width of its ids, how many
-/// abbreviations the outer blocks have, the bit behind its length field, and its length in words.
+/// abbreviations of their own the outer blocks have, how many BLOCKINFO had defined for it, the bit
+/// behind its length field, and its length in words.
 #[derive(Clone, Copy)]
 pub struct Scope {
     entered: u128,
     block: u32,
     width: u32,
     first: usize,
+    known: usize,
     begins: u128,
     said: u32,
 }
 
-/// A definition of BLOCKINFO, and the block that it is for.
-#[derive(Drop)]
-pub struct Known {
-    block: u32,
-    definition: Definition,
-}
-
-/// Puts what BLOCKINFO defined for a block behind other abbreviations.
-fn copy_known(
-    alloc: Global,
-    known: &[Known],
-    block: u32,
-    abbrevs: &mut Vec<Definition>,
-) -> Result<(), NoMemory>
-    ensures { OnOk result (abbrevs.new.items ≡ abbrevs.old.items ++ known_for block known.now) }
+/// The operands of the innermost block's abbreviation that has the id.
+fn abbrev_of<'a>(
+    scope: Scope,
+    known: &'a KnownDefinitions,
+    own: &'a [Definition],
+    id: u64,
+) -> Option<&'a [AbbrevOp]>
+    requires { 4 ≤ id }
+    ensures ops { option_copied result ≡ abbrev_in scope known.now.all.items own.now (id - 4) }
+    ensures widths { IfSome result (λ ops. All (λ op. IsTrue (has_width op)) ops.now) }
 {
-    for one in known {
-        if one.block == block {
-            match one.definition.copy(alloc) {
-                Ok(copy) => {
-                    if let Err(_) = abbrevs.push(copy) {
-                        return Err(NoMemory);
-                    }
-                }
-                Err(_) => return Err(NoMemory),
-            }
-        }
+    let number = (id - 4) as usize;
+    if number < scope.known {
+        return known.get(scope.block, number);
     }
-    Ok(())
+    let place = scope.first as u128 + (number - scope.known) as u128;
+    if place >= own.len() as u128 {
+        return None;
+    }
+    Some(own[place as usize].as_slice())
 }
 
 /// Reads the entries of a bitstream one by one. After a fault it stands anywhere.
-// Outside all blocks `outer` is empty, and `scope` has the width 2.
+// Outside all blocks `outer` is empty, and `scope` has the width 2. `abbrevs` has what the open blocks
+// define themselves, the innermost's last.
 #[derive(Drop)]
 pub struct EntryReader<'b> {
     alloc: Global,
@@ -60,7 +56,7 @@ pub struct EntryReader<'b> {
     scope: Scope,
     outer: Vec<Scope>,
     abbrevs: Vec<Definition>,
-    known: Vec<Known>,
+    known: KnownDefinitions,
     named: Option<u32>,
     ghost width: { scope.width ≤ 32 },
     ghost widths: { All (λ s. s.width ≤ 32) outer.items },
@@ -84,12 +80,13 @@ impl<'b> EntryReader<'b> {
                 block: 1,
                 width: 2,
                 first: 0,
+                known: 0,
                 begins: 0,
                 said: 0,
             },
             outer: Vec::new(alloc),
             abbrevs: Vec::new(alloc),
-            known: Vec::new(alloc),
+            known: KnownDefinitions::new(alloc),
             named: None,
         }
     }
@@ -210,15 +207,6 @@ impl<'b> EntryReader<'b> {
             Ok(opened) => opened,
             Err(fault) => return Err(fault),
         };
-        let first = self.abbrevs.len();
-        if let Err(_) = copy_known(
-            self.alloc,
-            self.known.as_slice(),
-            opened.block,
-            &mut self.abbrevs,
-        ) {
-            return Err(BitFault::NoMemory);
-        }
         if let Err(_) = self.outer.push(self.scope) {
             return Err(BitFault::NoMemory);
         }
@@ -226,7 +214,8 @@ impl<'b> EntryReader<'b> {
             entered: at,
             block: opened.block,
             width: opened.width,
-            first,
+            first: self.abbrevs.len(),
+            known: self.known.count(opened.block),
             begins: opened.begins,
             said: opened.said,
         };
@@ -252,11 +241,7 @@ impl<'b> EntryReader<'b> {
                 Ok(ops) => ops,
                 Err(fault) => return Err(fault),
             };
-            let known = Known {
-                block,
-                definition: Definition::from_vec(ops),
-            };
-            if let Err(_) = self.known.push(known) {
+            if let Err(_) = self.known.push(block, Definition::from_vec(ops)) {
                 return Err(BitFault::NoMemory);
             }
             return Ok(None);
@@ -295,12 +280,11 @@ impl<'b> EntryReader<'b> {
         requires { 4 ≤ id }
         ensures { EntryGives (context self.new) (here self.new.cursor) result (abbreviated_at at id (context self.old) (here self.old.cursor)) }
     {
-        let place = self.scope.first as u128 + (id - 4) as u128;
-        if place >= self.abbrevs.len() as u128 {
-            return Err(BitFault::UnknownAbbrev { at, id });
-        }
+        let ops = match abbrev_of(self.scope, &self.known, self.abbrevs.as_slice(), id) {
+            Some(ops) => ops,
+            None => return Err(BitFault::UnknownAbbrev { at, id }),
+        };
         let mut numbers = Vec::new(self.alloc);
-        let ops = self.abbrevs[place as usize].as_slice();
         let blob = match self.cursor.values(ops, &mut numbers) {
             Ok(blob) => blob,
             Err(fault) => return Err(fault),

@@ -1,6 +1,6 @@
 //! Numbers in bytes, from a bit on: of a fixed width, and in groups.
 
-ghost use Rattle.std.specs.Prelude.{◌≡◌, ◌≤◌, ◌*◌, ◌+◌, ◌^◌, ◌<◌, length, OnOk, IfOk, IfSome, IfNone};
+ghost use Rattle.std.specs.Prelude.{◌≡◌, ◌≤◌, ◌*◌, ◌+◌, ◌/◌, ◌%◌, ◌^◌, ◌<◌, length, Ok, OnOk, IfOk, IfSome, IfNone};
 ghost use Rattle.bitstream.specs.Bits.{value, bits_of};
 ghost use Rattle.bitstream.specs.Fields.{fixed_at, vbr_at, place, Gives, GivesWith};
 
@@ -20,8 +20,38 @@ fn word(bytes: &[u8]) -> u128
     sum
 }
 
+/// The number in `width` bits of eight bytes, behind the first `skip` bits.
+#[inline(always)]
+fn bits_in(eight: &[u8; 8], skip: u32, width: u32) -> u64
+    requires skip { skip + width < 64 }
+    requires width { width ≤ 56 }
+    ensures { result ≡ value (bits_of eight.now) / 2 ^ skip % 2 ^ width }
+{
+    (u64::from_le_bytes(*eight) >> skip) & ((1u64 << width) - 1)
+}
+
 /// The number in `width` bits from the bit `at` on.
+#[inline(always)]
 pub fn fixed_field(bytes: &[u8], at: u128, width: u32) -> Result<u64, BitFault>
+    requires width { width ≤ 64 }
+    requires at { at ≤ 8 * length bytes.now }
+    ensures read { Gives (place bytes.now (at + width)) result (fixed_at width (place bytes.now at)) }
+    ensures end { OnOk result (at + width ≤ 8 * length bytes.now) }
+    ensures value { IfOk result (λ v. v < 2 ^ width) }
+{
+    let (_, rest) = bytes.split_at((at / 8) as usize);
+    if width <= 56 {
+        if let Some(eight) = rest.first_chunk::<8>() {
+            return Ok(bits_in(eight, (at % 8) as u32, width));
+        }
+    }
+    any_field(bytes, at, width)
+}
+
+/// The number in `width` bits from the bit `at` on, byte by byte.
+#[cold]
+#[inline(never)]
+fn any_field(bytes: &[u8], at: u128, width: u32) -> Result<u64, BitFault>
     requires width { width ≤ 64 }
     requires at { at ≤ 8 * length bytes.now }
     ensures read { Gives (place bytes.now (at + width)) result (fixed_at width (place bytes.now at)) }
@@ -58,7 +88,42 @@ fn with_digit(sum: u64, digit: u64, shift: u128) -> Option<u64>
     Some(sum + (digit << shift))
 }
 
+/// The number in groups of `width` bits from the bit `at` on, and the bit behind it, where the eight
+/// bytes from there on have all its groups.
+#[inline(always)]
+fn near_field(bytes: &[u8], at: u128, width: u32) -> Option<(u64, u128)>
+    requires some { 0 < width }
+    requires width { width ≤ 32 }
+    requires at { at ≤ 8 * length bytes.now }
+    ensures read { IfSome result (λ x. vbr_at width (place bytes.now at) ≡ Ok (x.0, place bytes.now x.1)) }
+    ensures end { IfSome result (λ x. x.1 ≤ 8 * length bytes.now) }
+{
+    let (_, rest) = bytes.split_at((at / 8) as usize);
+    let eight = match rest.first_chunk::<8>() {
+        Some(eight) => eight,
+        None => return None,
+    };
+    let skip = (at % 8) as u32;
+    let low = width - 1;
+    let more = 1u64 << low;
+    let mut sum = 0u64;
+    let mut shift = 0u32;
+    let mut over = 0u32;
+    'each: while over + width <= 56 {
+        let group = bits_in(eight, skip + over, width);
+        let digit = group & (more - 1);
+        sum += digit << shift;
+        over += width;
+        if group < more {
+            return Some((sum, at + over as u128));
+        }
+        shift += low;
+    }
+    None
+}
+
 /// The number in groups of `width` bits from the bit `at` on, and the bit behind it.
+#[inline(always)]
 #[tactic(auto, unfolding(crate::specs::Fields::vbr_at))]
 pub fn vbr_field(bytes: &[u8], at: u128, width: u32) -> Result<(u64, u128), BitFault>
     requires width { width ≤ 32 }
@@ -69,6 +134,22 @@ pub fn vbr_field(bytes: &[u8], at: u128, width: u32) -> Result<(u64, u128), BitF
     if width == 0 {
         return Ok((0, at));
     }
+    if let Some(found) = near_field(bytes, at, width) {
+        return Ok(found);
+    }
+    groups_field(bytes, at, width)
+}
+
+/// The number in groups of `width` bits from the bit `at` on, and the bit behind it, group by group.
+#[inline(never)]
+#[tactic(auto, unfolding(crate::specs::Fields::vbr_at))]
+fn groups_field(bytes: &[u8], at: u128, width: u32) -> Result<(u64, u128), BitFault>
+    requires some { 0 < width }
+    requires width { width ≤ 32 }
+    requires at { at ≤ 8 * length bytes.now }
+    ensures read { GivesWith bytes.now result (vbr_at width (place bytes.now at)) }
+    ensures end { IfOk result (λ x. x.1 ≤ 8 * length bytes.now) }
+{
     let low = width - 1;
     let top = 1u64 << low;
     let mut sum = 0u64;

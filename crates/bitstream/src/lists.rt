@@ -48,6 +48,7 @@ fn may_stand(first: bool, in_array: bool, more: u64, op: AbbrevOp) -> bool
 
 impl<'b> Cursor<'b> {
     /// Numbers that are written alike, put behind those that were read before.
+    #[inline(always)]
     pub fn numbers(
         &mut self,
         count: u64,

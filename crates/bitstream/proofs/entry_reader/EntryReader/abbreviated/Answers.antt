@@ -1,27 +1,23 @@
-use Rattle.std.proofs.Common.{arith, ◌∙◌, ◌-◌, ◌+◌, ap, sym, subst, Some}
-use Rattle.std.proofs.lemmas.Option.{slice_get-get_or}
+use Rattle.std.proofs.Common.{arith, ◌∙◌, ◌-◌, ap, sym, subst}
 use Rattle.bitstream.specs.Cursor.{here}
 use Rattle.bitstream.specs.Stream.{values_at, behind_numbers}
+use Rattle.bitstream.specs.Scopes.{abbrev_in}
 use Rattle.bitstream.specs.Reading.{EntryGives, context}
 use Rattle.bitstream.proofs.EntryReadingLaws.{abbreviated-is, abbreviated-none, behind-none, uncons, none_left, some_left}
 use Rattle.bitstream.proofs.entry_reader.EntryReader.abbreviated.Goals as goal
 
 pub returns-then-is_empty : goal.returns-then-is_empty
 returns-then-is_empty c =
-    let place = c.args.self.now.scope.first + (c.args.id - 4) in
-    let found = slice_get-get_or c.args.self.now.abbrevs.items place c.index.result.now (omega (arith, c.if-place-len.false, c.len.ensures, c.args.self.now.abbrevs.ok))
-    ∙ ap Some (sym c.index.ensures ∙ sym c.as_slice-ops.ensures.ops) in
-    let read = values_at c.as_slice-ops.result.now (here c.args.self.now.cursor) in
+    let found = ap (λ own. abbrev_in c.args.self.now.scope c.args.self.now.known.all.items own (c.args.id - 4)) (sym c.as_slice.ensures.value) ∙ sym c.in-Some.ensures.ops in
+    let read = values_at c.in-Some.ops.now (here c.args.self.now.cursor) in
     let is = sym (behind-none read) ∙ ap (λ s. behind_numbers s read) (sym c.new-numbers.ensures.items) ∙ c.in-Ok.ensures in
     subst (λ r. EntryGives (context c.record.new.self) (here c.record.new.self.cursor) c.record.result r)
     (sym (abbreviated-none c.args.at c.args.id (context c.args.self.now) _ _ _ _ _ found is (none_left _ _ (sym c.is_empty.ensures ∙ c.if-is_empty.true) (omega (arith, c.values.new.values.ok))))) c.record.ensures
 
 pub returns : goal.returns
 returns c =
-    let place = c.args.self.now.scope.first + (c.args.id - 4) in
-    let found = slice_get-get_or c.args.self.now.abbrevs.items place c.index.result.now (omega (arith, c.if-place-len.false, c.len.ensures, c.args.self.now.abbrevs.ok))
-    ∙ ap Some (sym c.index.ensures ∙ sym c.as_slice-ops.ensures.ops) in
-    let read = values_at c.as_slice-ops.result.now (here c.args.self.now.cursor) in
+    let found = ap (λ own. abbrev_in c.args.self.now.scope c.args.self.now.known.all.items own (c.args.id - 4)) (sym c.as_slice.ensures.value) ∙ sym c.in-Some.ensures.ops in
+    let read = values_at c.in-Some.ops.now (here c.args.self.now.cursor) in
     let is = sym (behind-none read) ∙ ap (λ s. behind_numbers s read) (sym c.new-numbers.ensures.items) ∙ c.in-Ok.ensures in
     let some = some_left c.values.new.values.items _ (sym c.is_empty.ensures ∙ c.if-is_empty.false) (omega (arith, c.values.new.values.ok)) in
     subst (λ r. EntryGives (context c.record-2.new.self) (here c.record-2.new.self.cursor) c.record-2.result r)

@@ -2,7 +2,7 @@ use Rattle.std.proofs.Common.{◌≡◌, ◌++◌, drop}
 use Rattle.bitstream.specs.Bits.{bits_of}
 use Rattle.bitstream.specs.Buffer.{bits_in}
 use Rattle.bitstream.specs.Writing.{Grows}
-use Rattle.bitstream.proofs.buffer.BitBuffer.push_bytes.Given as goal
+use Rattle.bitstream.proofs.buffer.BitBuffer.push_each.Given as goal
 
 abbrev pub invariant-loop-byte : goal.invariant-loop-byte
 invariant-loop-byte l = record {

@@ -1,6 +1,6 @@
 use Rattle.std.proofs.Common.{◌≡◌, ◌≤◌, ◌*◌, ◌-◌, ◌+◌, ◌^◌, ◌<◌, length}
 use Rattle.bitstream.specs.Fields.{place, answer, groups_at, vbr_at}
-use Rattle.bitstream.proofs.field.vbr_field.Given as goal
+use Rattle.bitstream.proofs.field.groups_field.Given as goal
 
 abbrev pub invariant-each : goal.invariant-each
 invariant-each l = record {
