@@ -1,114 +1,31 @@
--- Where a text stands among ascending identifiers, and which identifiers there are.
-use Rattle.std.proofs.Common.{◌≡◌, ◌⊎◌, inl, inr, ℕ, zero, suc, ◌<◌, ◌≤◌, Bool, true, false, cond, nat_eq, List, [], ◌∷◌, length, get_or, Some, refl, sym, ap, ◌∙◌, subst, arith}
-use Rattle.std.specs.List.{HoldsAt, Contains, filter, dedup}
-use Rattle.std.specs.List.Sorted.{IsStrictlySortedBy, IsNonDecreasingBy, IsPartitionPoint, IsSorted, IsPermutation}
-use Rattle.std.specs.Ordering.{nat_cmp, ordering_index, is_eq}
-use Rattle.std.specs.Cmp.{IsTotalOrder}
-use Rattle.std.proofs.lemmas.Cmp.{alike_right, tied_itself}
-use Rattle.std.proofs.Math.Nat.{eq-or-lt_of_le}
-use Rattle.std.proofs.lemmas.Bool.{cases_lt}
+-- Which texts were added to names, in which order they stand, and where.
+use Rattle.std.proofs.Common.{◌≡◌, ◌⊎◌, inl, inr, ℕ, zero, suc, ◌+◌, ◌<◌, ◌≤◌, Bool, true, false, cond, not, ◌||◌, nat_lt, nat_eq, List, [], ◌∷◌, ◌++◌, length, get_or, take, map, Some, None, refl, sym, ap, ◌∙◌, subst, arith}
+use Rattle.std.specs.Prelude.{IsTrue}
+use Rattle.std.specs.List.{Contains, AllByRecursion, AllZip, slice_get, IsDistinct, flat_map, list_any, position, position_or_len, dedup, dedup_from}
+use Rattle.std.specs.List.Sorted.{IsStrictlySortedBy, IsSorted, IsPermutation}
+use Rattle.std.specs.Ordering.{nat_cmp}
+use Rattle.std.specs.Str.{bytes_eq}
+use Rattle.std.specs.declared.string.String.{String}
+use Rattle.std.specs.String.{string_bytes, string_eq, string_eq_equiv, string_cmp, string_cmp_total}
+use Rattle.std.specs.Cmp.Lexicographic.{slice_cmp, pointwise, nat_list_eq_equiv, bytes_decides, texts_ties}
+use Rattle.std.specs.declared.cmp.Ordering.TheVariants.{Less}
+use Rattle.std.proofs.Math.Seq.{take_all}
+use Rattle.std.proofs.lemmas.Bool.Decides.{nat_tests}
+use Rattle.std.proofs.lemmas.List.{map-append}
+use Rattle.std.proofs.lemmas.List.Elements.{Contains-append_left, Contains-append_right, Contains-append_cases}
+use Rattle.std.proofs.lemmas.List.Kept.{IsStrictlySortedBy-dedup}
 use Rattle.std.proofs.lemmas.List.Sorted.{Contains-permutation, IsPermutation-sym}
-use Rattle.std.proofs.lemmas.List.Kept.{IsStrictlySortedBy-dedup, Contains-dedup, Contains-from_dedup}
-use Rattle.std.specs.Cmp.Lexicographic.{slice_cmp, pointwise, nat_list_cmp_total, nat_list_eq_equiv, bytes_decides, texts_ties}
-use Rattle.std.specs.declared.cmp.Ordering.{Ordering}
-use Rattle.std.specs.declared.cmp.Ordering.TheVariants.{Less, Equal, Greater}
-use Rattle.std.proofs.lemmas.Option.{slice_get-get_or}
-use Rattle.std.proofs.lemmas.Map.Keys.{Less-from_sorted}
+use Rattle.std.proofs.lemmas.List.Sums.{prefix_len-le-length}
+use Rattle.indexmap.specs.IndexSet.{insert_key}
 use Rattle.dep_key.specs.declared.graph.FileGraph.{FileGraph}
 use Rattle.dep_key.specs.KeyOrder.{is_filled}
-use Rattle.swiftdeps.specs.Spelling.{place_of}
-use Rattle.swiftdeps.specs.Written.{texts_in, AreNamesOf}
-use Rattle.swiftdeps.proofs.TextLaws.{place_again}
-
-equal_texts : (a b : List ℕ) → slice_cmp nat_cmp a b ≡ Equal → a ≡ b
-equal_texts a b e = (bytes_decides a b).0 (texts_ties a b ∙ ap is_eq e)
-
-pub found_place : (names : List (List ℕ)) (place : ℕ) (text : List ℕ) → IsStrictlySortedBy (slice_cmp nat_cmp) names → place < length names → HoldsAt (λ y. slice_cmp nat_cmp y text ≡ Equal) names place → place ≡ place_of names text
-found_place names place text s h holds =
-    sym (place_again names place text s (slice_get-get_or names place [] h ∙ ap Some (equal_texts (get_or names place []) text (holds []))))
+use Rattle.swiftdeps.specs.Spelling.{AreAscendingTexts, place_of}
+use Rattle.swiftdeps.specs.Written.{texts_in, Adds, AreNamesOf}
+use Rattle.swiftdeps.proofs.WriteLaws.{flat_more}
 
 abbrev pub Among : {A : Type 0} → List A → A → Type 0
 Among [] x = ⊥
 Among (y ∷ ys) x = (y ≡ x) ⊎ Among ys x
-
-module _ {K : Type 0} {R : K → K → Ordering} (o : IsTotalOrder R) where
-  index_rises : (a b t : K) → R a b ≡ Less → ordering_index (R a t) ≤ ordering_index (R b t)
-  index_rises a b t h = by (R b t) refl
-    where
-      low : (r : Ordering) → r ≡ Less → (n : ℕ) → ordering_index r ≤ n
-      low Less e n = omega arith
-      low Equal e n = absurd cc
-      low Greater e n = absurd cc
-
-      most : (r : Ordering) → ordering_index r ≤ 2
-      most Less = omega arith
-      most Equal = omega arith
-      most Greater = omega arith
-
-      by : (r : Ordering) → r ≡ R b t → ordering_index (R a t) ≤ ordering_index r
-      by Less e = low (R a t) (o.trans a b t h (sym e)) 0
-      by Equal e = low (R a t) (sym (alike_right o b t a (sym e)) ∙ h) 1
-      by Greater e = most (R a t)
-
-  pub rises : (keys : List K) (t : K) → IsStrictlySortedBy R keys → IsNonDecreasingBy (λ y. ordering_index (R y t)) keys
-  rises keys t s i j d le lt = split (eq-or-lt_of_le le)
-    where
-      split : (i ≡ j) ⊎ (i < j) → ordering_index (R (get_or keys i d) t) ≤ ordering_index (R (get_or keys j d) t)
-      split (inl e) = subst (λ (k : ℕ). ordering_index (R (get_or keys i d) t) ≤ ordering_index (R (get_or keys k d) t)) e (omega arith)
-      split (inr h) = index_rises (get_or keys i d) (get_or keys j d) t (Less-from_sorted R keys i j d s h lt)
-
-  not_equal : (r : Ordering) → (r ≡ Less) ⊎ (r ≡ Greater) → r ≡ Equal → ⊥
-  not_equal r (inl h) e = different (sym h ∙ e)
-    where
-      different : Less ≡ Equal → ⊥
-      different e = cc
-  not_equal r (inr h) e = different (sym h ∙ e)
-    where
-      different : Greater ≡ Equal → ⊥
-      different e = cc
-
-  -- each key lies on one side
-  pub apart : (keys : List K) (t : K) (i : ℕ) → IsPartitionPoint (λ y. R y t ≡ Less) (λ y. R y t ≡ Greater) keys i → (k : ℕ) (d : K) → k < length keys → R (get_or keys k d) t ≡ Equal → ⊥
-  apart keys t i p k d h = split (cases_lt k i)
-    where
-      split : (k < i) ⊎ (i ≤ k) → R (get_or keys k d) t ≡ Equal → ⊥
-      split (inl below) = not_equal (R (get_or keys k d) t) (inl (p.0 k d (omega arith) below))
-      split (inr above) = not_equal (R (get_or keys k d) t) (inr (p.1 k d above h))
-
-absent_step : (x : List ℕ) (xs : List (List ℕ)) (text : List ℕ) → (slice_cmp nat_cmp x text ≡ Equal → ⊥) → length xs ≡ place_of xs text → suc (length xs) ≡ place_of (x ∷ xs) text
-absent_step x xs text h later = by (pointwise nat_eq x text) refl
-  where
-    by : (b : Bool) → b ≡ pointwise nat_eq x text → suc (length xs) ≡ cond b 0 (suc (place_of xs text))
-    by true e = absurd (h (ap (λ (y : List ℕ). slice_cmp nat_cmp y text) ((bytes_decides x text).0 (sym e)) ∙ tied_itself nat_list_cmp_total text))
-    by false e = ap suc later
-
-pub absent_place : (names : List (List ℕ)) (text : List ℕ) → ((k : ℕ) (d : List ℕ) → k < length names → slice_cmp nat_cmp (get_or names k d) text ≡ Equal → ⊥) → length names ≡ place_of names text
-absent_place [] text h = refl
-absent_place (x ∷ xs) text h = absent_step x xs text (h 0 [] (omega arith)) (absent_place xs text (λ k d lt. h (suc k) d (omega (arith, lt))))
-
--- ---- the identifiers of files
-
-from_step : {A : Type 0} (p : A → Bool) (y : A) (ys : List A) (x : A) (b : Bool) → b ≡ p y → (Among (filter p ys) x → (p x ≡ true) × Among ys x) → Among (cond b (y ∷ filter p ys) (filter p ys)) x → (p x ≡ true) × Among (y ∷ ys) x
-from_step p y ys x true e later (inl same) = (ap p (sym same) ∙ sym e, inl same)
-from_step p y ys x true e later (inr h) = let f = later h in (f.0, inr f.1)
-from_step p y ys x false e later h = let f = later h in (f.0, inr f.1)
-
-filter_from : {A : Type 0} (p : A → Bool) (xs : List A) (x : A) → Among (filter p xs) x → (p x ≡ true) × Among xs x
-filter_from p [] x h = absurd h
-filter_from p (y ∷ ys) x h = from_step p y ys x (p y) refl (filter_from p ys x) h
-
-different : true ≡ false → ⊥
-different e = cc
-
-to_step : {A : Type 0} (p : A → Bool) (y : A) (ys : List A) (x : A) (b : Bool) → b ≡ p y → p x ≡ true → (Among ys x → Among (filter p ys) x) → Among (y ∷ ys) x → Among (cond b (y ∷ filter p ys) (filter p ys)) x
-to_step p y ys x true g e later (inl same) = inl same
-to_step p y ys x true g e later (inr h) = inr (later h)
-to_step p y ys x false g e later (inl same) = absurd (different (sym e ∙ ap p (sym same) ∙ sym g))
-to_step p y ys x false g e later (inr h) = later h
-
-filter_to : {A : Type 0} (p : A → Bool) (xs : List A) (x : A) → p x ≡ true → Among xs x → Among (filter p xs) x
-filter_to p [] x e h = absurd h
-filter_to p (y ∷ ys) x e h = to_step p y ys x (p y) refl e (filter_to p ys x e) h
 
 among_at : {A : Type 0} (xs : List A) (x : A) (k : ℕ) → k < length xs → get_or xs k x ≡ x → Among xs x
 among_at [] x k h e = absurd (omega (arith, h))
@@ -123,16 +40,176 @@ from_among [] x h = absurd h
 from_among (y ∷ ys) x (inl e) = (0, omega arith, e)
 from_among (y ∷ ys) x (inr h) = let c = from_among ys x h in (suc c.0, omega (arith, c.1), c.2)
 
-pub names_are : (files : List FileGraph) (texts sorted names : List (List ℕ)) → texts ≡ filter is_filled (texts_in files) → IsPermutation texts sorted → IsSorted (slice_cmp nat_cmp) sorted → names ≡ dedup (pointwise nat_eq) sorted → AreNamesOf files names
-names_are files texts sorted names t p s d = record {
-  ascending = subst (IsStrictlySortedBy (slice_cmp nat_cmp)) (sym d) (IsStrictlySortedBy-dedup nat_list_cmp_total texts_ties sorted s);
-  in_use = λ text c.
-      let inside : Contains sorted text = Contains-from_dedup (pointwise nat_eq) sorted text (subst (λ (x : List (List ℕ)). Contains x text) d c) in
-      let before : Contains texts text = Contains-permutation sorted texts text (IsPermutation-sym texts sorted p) inside in
-      let f = filter_from is_filled (texts_in files) text (to_among (filter is_filled (texts_in files)) text (subst (λ (x : List (List ℕ)). Contains x text) t before)) in
-      (f.0, from_among (texts_in files) text f.1);
-  all = λ text e c.
-      let filtered = from_among (filter is_filled (texts_in files)) text (filter_to is_filled (texts_in files) text e (to_among (texts_in files) text c)) in
-      let inside : Contains sorted text = Contains-permutation texts sorted text p (subst (λ (x : List (List ℕ)). Contains x text) (sym t) filtered) in
-      subst (λ (x : List (List ℕ)). Contains x text) (sym d) (Contains-dedup nat_list_eq_equiv (λ a b h. (bytes_decides a b).0 h) sorted text inside);
+-- ---- texts that were added
+
+pub adds_none : (a : List (List ℕ)) → Adds [] a a
+adds_none a text = (inl, back)
+  where
+    back : Contains a text ⊎ IsTrue (is_filled text) × Contains [] text → Contains a text
+    back (inl c) = c
+    back (inr h) = absurd (omega (arith, h.1.1))
+
+pub adds_both : (xs ys a b c : List (List ℕ)) → Adds xs a b → Adds ys b c → Adds (xs ++ ys) a c
+adds_both xs ys a b c f g text = (λ h. second ((g text).0 h), back)
+  where
+    first : Contains a text ⊎ IsTrue (is_filled text) × Contains xs text → Contains a text ⊎ IsTrue (is_filled text) × Contains (xs ++ ys) text
+    first (inl h) = inl h
+    first (inr h) = inr (h.0, Contains-append_left xs ys text h.1)
+
+    second : Contains b text ⊎ IsTrue (is_filled text) × Contains ys text → Contains a text ⊎ IsTrue (is_filled text) × Contains (xs ++ ys) text
+    second (inl h) = first ((f text).0 h)
+    second (inr h) = inr (h.0, Contains-append_right xs ys text h.1)
+
+    one_of : IsTrue (is_filled text) → Contains xs text ⊎ Contains ys text → Contains c text
+    one_of e (inl h) = (g text).1 (inl ((f text).1 (inr (e, h))))
+    one_of e (inr h) = (g text).1 (inr (e, h))
+
+    back : Contains a text ⊎ IsTrue (is_filled text) × Contains (xs ++ ys) text → Contains c text
+    back (inl h) = (g text).1 (inl ((f text).1 (inl h)))
+    back (inr h) = one_of h.0 (Contains-append_cases xs ys text h.1)
+
+-- one turn of a loop that adds the texts of each element
+pub adds_turn : {A : Type 0} (f : A → List (List ℕ)) (l : List A) (i : ℕ) (x : A) (a b c : List (List ℕ)) → i < length l → x ≡ get_or l i x → Adds (flat_map f (take i l)) a b → Adds (f x) b c → Adds (flat_map f (take (i + 1) l)) a c
+adds_turn f l i x a b c h e s one = subst (λ (texts : List (List ℕ)). Adds texts a c) (sym (flat_more f l i x h e)) (adds_both (flat_map f (take i l)) (f x) a b c s one)
+
+-- and a loop that has come to the end of its list
+pub adds_whole : {A : Type 0} (f : A → List (List ℕ)) (l : List A) (i : ℕ) (a b : List (List ℕ)) → length l ≤ i → Adds (flat_map f (take i l)) a b → Adds (flat_map f l) a b
+adds_whole {A} f l i a b h s = subst (λ (x : List A). Adds (flat_map f x) a b) (take_all i l h) s
+
+pub adds_equal : (text other : List ℕ) (a b : List (List ℕ)) → text ≡ other → Adds (text ∷ []) a b → Adds (other ∷ []) a b
+adds_equal text other a b e s = subst (λ (t : List ℕ). Adds (t ∷ []) a b) e s
+
+one_is : (x y : List ℕ) → Contains (x ∷ []) y → x ≡ y
+one_is x y c = by (to_among (x ∷ []) y c)
+  where
+    by : Among (x ∷ []) y → x ≡ y
+    by (inl e) = e
+    by (inr h) = absurd h
+
+-- a text that is there, or empty, changes nothing
+pub adds_same : (text : List ℕ) (a : List (List ℕ)) → (IsTrue (is_filled text) → Contains a text) → Adds (text ∷ []) a a
+adds_same text a there t = (inl, back)
+  where
+    back : Contains a t ⊎ IsTrue (is_filled t) × Contains (text ∷ []) t → Contains a t
+    back (inl c) = c
+    back (inr h) = subst (Contains a) (one_is text t h.1) (there (subst (λ (x : List ℕ). IsTrue (is_filled x)) (sym (one_is text t h.1)) h.0))
+
+adds_one : (text : List ℕ) (a : List (List ℕ)) → IsTrue (is_filled text) → Adds (text ∷ []) a (a ++ text ∷ [])
+adds_one text a filled t = (λ c. there (Contains-append_cases a (text ∷ []) t c), back)
+  where
+    there : Contains a t ⊎ Contains (text ∷ []) t → Contains a t ⊎ IsTrue (is_filled t) × Contains (text ∷ []) t
+    there (inl h) = inl h
+    there (inr h) = inr (subst (λ (x : List ℕ). IsTrue (is_filled x)) (one_is text t h) filled, h)
+
+    back : Contains a t ⊎ IsTrue (is_filled t) × Contains (text ∷ []) t → Contains (a ++ text ∷ []) t
+    back (inl h) = Contains-append_left a (text ∷ []) t h
+    back (inr h) = Contains-append_right a (text ∷ []) t h.1
+
+either_way : (b : Bool) (m n : ℕ) → m ≡ n → cond b 0 (suc m) ≡ cond (not b) (1 + n) 0
+either_way true m n e = refl
+either_way false m n e = omega (arith, e)
+
+some_is : (a b : ℕ) → Some a ≡ Some b → a ≡ b
+some_is a b e = cc
+
+some_place : (b : Bool) (n place : ℕ) → Some place ≡ cond b (Some n) None → place ≡ n
+some_place true n place e = some_is place n e
+some_place false n place e = absurd cc
+
+no_place : (b : Bool) (n len : ℕ) → b ≡ nat_lt n len → n ≤ len → None ≡ cond b (Some n) None → len ≡ n
+no_place true n len h most e = absurd cc
+no_place false n len h most e = grind (arith, nat_tests, h, most)
+
+module _ {Z : Type 0} where
+  among_step : (k : String Z) (ks : List (String Z)) (text : List ℕ) (b : Bool) → b ≡ bytes_eq text (string_bytes k) → (list_any (λ x. bytes_eq text (string_bytes x)) ks ≡ true → Among (map string_bytes ks) text)
+      → (b || list_any (λ x. bytes_eq text (string_bytes x)) ks) ≡ true → Among (map string_bytes (k ∷ ks)) text
+  among_step k ks text true h later e = inl (sym ((bytes_decides text (string_bytes k)).0 (sym h)))
+  among_step k ks text false h later e = inr (later e)
+
+  among_texts : (ks : List (String Z)) (text : List ℕ) → list_any (λ k. bytes_eq text (string_bytes k)) ks ≡ true → Among (map string_bytes ks) text
+  among_texts [] text e = absurd cc
+  among_texts (k ∷ ks) text e = among_step k ks text (bytes_eq text (string_bytes k)) refl (among_texts ks text) e
+
+  pub found_text : (ks : List (String Z)) (text : List ℕ) → list_any (λ k. bytes_eq text (string_bytes k)) ks ≡ true → Contains (map string_bytes ks) text
+  found_text ks text e = from_among (map string_bytes ks) text (among_texts ks text e)
+
+  -- a copy of a text was put into a set
+  pub adds_copy : (old new : List (String Z)) (copy : String Z) (text : List ℕ) → string_bytes copy ≡ text → IsTrue (is_filled text) → new ≡ insert_key string_eq old copy → Adds (text ∷ []) (map string_bytes old) (map string_bytes new)
+  adds_copy old new copy text same filled is = by (list_any (string_eq copy) old) refl is
+    where
+      by : (b : Bool) → b ≡ list_any (string_eq copy) old → new ≡ cond b old (old ++ copy ∷ []) → Adds (text ∷ []) (map string_bytes old) (map string_bytes new)
+      by true h e = subst (λ (ks : List (String Z)). Adds (text ∷ []) (map string_bytes old) (map string_bytes ks)) (sym e)
+          (adds_same text (map string_bytes old) (λ _. subst (Contains (map string_bytes old)) same (found_text old (string_bytes copy) (sym h))))
+      by false h e = subst (Adds (text ∷ []) (map string_bytes old)) (sym (ap (map string_bytes) e ∙ map-append string_bytes old (copy ∷ []) ∙ ap (λ (t : List ℕ). map string_bytes old ++ t ∷ []) same))
+          (adds_one text (map string_bytes old) filled)
+
+  -- copies are the same texts
+  pub same_texts : (ks cs : List (String Z)) → AllZip (λ k c. string_bytes c ≡ string_bytes k) ks cs → map string_bytes cs ≡ map string_bytes ks
+  same_texts [] [] all = refl
+  same_texts [] (c ∷ cs) all = absurd all
+  same_texts (k ∷ ks) [] all = absurd all
+  same_texts (k ∷ ks) (c ∷ cs) all = λ i. all.0 i ∷ same_texts ks cs all.1 i
+
+  -- ---- their order
+
+  dedup_from-distinct : (k : String Z) (ks : List (String Z)) → AllByRecursion (λ y. string_eq k y ≡ false) ks → IsDistinct string_eq ks → dedup_from string_eq k ks ≡ k ∷ ks
+  unfolding IsDistinct
+  dedup_from-distinct k [] apart all = refl
+  dedup_from-distinct k (x ∷ xs) apart all = rw (string_eq_equiv.symm x k ∙ apart.0) (ap (λ (ys : List (String Z)). k ∷ ys) (dedup_from-distinct x xs all.0 all.1))
+
+  dedup-distinct : (ks : List (String Z)) → IsDistinct string_eq ks → dedup string_eq ks ≡ ks
+  unfolding IsDistinct
+  dedup-distinct [] all = refl
+  dedup-distinct (k ∷ ks) all = dedup_from-distinct k ks all.0 all.1
+
+  below_texts : (k : String Z) (ks : List (String Z)) → AllByRecursion (λ y. string_cmp k y ≡ Less) ks → AllByRecursion (λ y. slice_cmp nat_cmp (string_bytes k) y ≡ Less) (map string_bytes ks)
+  below_texts k [] all = tt
+  below_texts k (x ∷ xs) all = (all.0, below_texts k xs all.1)
+
+  ascending_texts : (ks : List (String Z)) → IsStrictlySortedBy string_cmp ks → AreAscendingTexts (map string_bytes ks)
+  unfolding IsStrictlySortedBy
+  ascending_texts [] s = tt
+  ascending_texts (k ∷ ks) s = (below_texts k ks s.0, ascending_texts ks s.1)
+
+  -- different texts that are sorted ascend
+  pub sorted_texts : (ks : List (String Z)) → IsSorted string_cmp ks → IsDistinct string_eq ks → AreAscendingTexts (map string_bytes ks)
+  sorted_texts ks s d =
+      ascending_texts ks (subst (IsStrictlySortedBy string_cmp) (dedup-distinct ks d) (IsStrictlySortedBy-dedup string_cmp_total (λ x y. texts_ties (string_bytes x) (string_bytes y)) ks s))
+
+  -- ---- their places
+
+  place_in_set : (ks : List (String Z)) (text : List ℕ) → place_of (map string_bytes ks) text ≡ position_or_len (λ k. bytes_eq text (string_bytes k)) ks
+  place_in_set [] text = refl
+  place_in_set (k ∷ ks) text =
+      ap (λ (b : Bool). cond b 0 (suc (place_of (map string_bytes ks) text))) (nat_list_eq_equiv.symm (string_bytes k) text)
+      ∙ either_way (bytes_eq text (string_bytes k)) (place_of (map string_bytes ks) text) (position_or_len (λ x. bytes_eq text (string_bytes x)) ks) (place_in_set ks text)
+
+  pub found_place : (ks : List (String Z)) (text : List ℕ) (place : ℕ) → Some place ≡ position (λ k. bytes_eq text (string_bytes k)) ks → place ≡ place_of (map string_bytes ks) text
+  found_place ks text place e = some_place _ _ place e ∙ sym (place_in_set ks text)
+
+  pub absent_place : (ks : List (String Z)) (text : List ℕ) → None ≡ position (λ k. bytes_eq text (string_bytes k)) ks → length ks ≡ place_of (map string_bytes ks) text
+  absent_place ks text e = no_place _ _ (length ks) refl (prefix_len-le-length (λ k. not (bytes_eq text (string_bytes k))) ks) e ∙ sym (place_in_set ks text)
+
+-- ---- numbers that are kept for texts
+
+numbered_step : (f : List ℕ → ℕ) (x : List ℕ) (xs : List (List ℕ)) (text : List ℕ) (number : ℕ) (b : Bool) → b ≡ pointwise nat_eq x text → (Some number ≡ slice_get (map f xs) (place_of xs text) → number ≡ f text)
+    → Some number ≡ slice_get (f x ∷ map f xs) (cond b 0 (suc (place_of xs text))) → number ≡ f text
+numbered_step f x xs text number true h later e = some_is number (f x) e ∙ ap f ((bytes_decides x text).0 (sym h))
+numbered_step f x xs text number false h later e = later e
+
+pub numbered : (f : List ℕ → ℕ) (xs : List (List ℕ)) (text : List ℕ) (number : ℕ) → Some number ≡ slice_get (map f xs) (place_of xs text) → number ≡ f text
+numbered f [] text number e = absurd cc
+numbered f (x ∷ xs) text number e = numbered_step f x xs text number (pointwise nat_eq x text) refl (numbered f xs text number) e
+
+-- ---- the identifiers of files
+
+pub names_are : (files : List FileGraph) (found names : List (List ℕ)) → Adds (texts_in files) [] found → IsPermutation found names → AreAscendingTexts names → AreNamesOf files names
+names_are files found names adds moved ascending = record {
+  ascending = ascending;
+  in_use = λ text c. used text ((adds text).0 (Contains-permutation names found text (IsPermutation-sym found names moved) c));
+  all = λ text e c. Contains-permutation found names text moved ((adds text).1 (inr (e, c)));
 }
+  where
+    used : (text : List ℕ) → Contains [] text ⊎ IsTrue (is_filled text) × Contains (texts_in files) text → IsTrue (is_filled text) × Contains (texts_in files) text
+    used text (inl h) = absurd (omega (arith, h.1))
+    used text (inr h) = h

@@ -5,6 +5,8 @@ use Rattle.std.proofs.Math.Seq.{take-suc}
 use Rattle.std.proofs.lemmas.List.{append-nil, map-append}
 use Rattle.std.proofs.lemmas.List.Concat.{flat_map-cons}
 use Rattle.std.proofs.lemmas.Grind.{flat_map-append}
+use Rattle.std.specs.declared.string.String.{String}
+use Rattle.std.specs.String.{string_bytes}
 use Rattle.bitstream.specs.Reading.{Seen, Record}
 use Rattle.bitstream.specs.Writer.{Writing, Leaves}
 use Rattle.dep_key.specs.declared.graph.FileGraph.{FileGraph}
@@ -46,6 +48,14 @@ pub turn_flat : {A : Type 0} (f : A → List Seen) (l : List A) (i : ℕ) (x : A
     → InBlock u × (u ≡ with_items (flat_map f (take (i + 1) l)) s)
 turn_flat f l i x s t u h e inside so_far one =
     (still_inside (f x) t u one inside, goes_on (flat_map f (take i l)) (f x) s t u so_far one ∙ ap (λ (items : List Seen). with_items items s) (sym (flat_more f l i x h e)))
+
+-- the item of an identifier that is kept as a string
+abbrev pub named : {Z : Type 0} → String Z → Seen
+named text = identifier_item (string_bytes text)
+
+pub named_is : {Z : Type 0} (texts : List (String Z)) → map named texts ≡ map identifier_item (map string_bytes texts)
+named_is [] = refl
+named_is (text ∷ texts) = ap (λ (items : List Seen). named text ∷ items) (named_is texts)
 
 -- the whole block
 pub block_written : (version : ℕ) (names : List (List ℕ)) (files : List FileGraph) (a b c d e : Writing) → a ≡ begun_block → b ≡ with_items (Record 1 (version ∷ []) None ∷ []) a → c ≡ with_items (map identifier_item names) b

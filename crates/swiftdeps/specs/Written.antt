@@ -1,5 +1,5 @@
 -- The one spelling that is written.
-use Rattle.std.specs.Prelude.{◌≡◌, ℕ, ◌==◌, ◌&&◌, if◌then◌else◌, Bool, IsTrue, List, [], ◌∷◌, ◌++◌, length, map, codes, Some, None}
+use Rattle.std.specs.Prelude.{◌≡◌, ◌↔◌, ◌⊎◌, ℕ, ◌==◌, ◌&&◌, if◌then◌else◌, Bool, IsTrue, List, [], ◌∷◌, ◌++◌, length, map, codes, Some, None}
 use Rattle.std.specs.List.{flat_map, list_all, Contains, AllByRecursion}
 use Rattle.bitstream.specs.declared.item.AbbrevOp.{AbbrevOp}
 use Rattle.bitstream.specs.declared.item.AbbrevOp.TheVariants.{Literal, Blob}
@@ -28,6 +28,10 @@ file_texts file = file.path ∷ flat_map node_texts file.nodes
 
 abbrev pub texts_in : List FileGraph → List (List ℕ)
 texts_in files = flat_map file_texts files
+
+-- Names to which the filled ones of the texts were added, and no others.
+abbrev pub Adds : List (List ℕ) → List (List ℕ) → List (List ℕ) → Type 0
+Adds texts old new = (text : List ℕ) → Contains new text ↔ (Contains old text ⊎ IsTrue (is_filled text) × Contains texts text)
 
 -- The identifiers are the filled texts of the files, each once, strictly ascending.
 pub record AreNamesOf (files : List FileGraph) (names : List (List ℕ)) : Type 0 where

@@ -78,19 +78,58 @@ fn node_of_file(alloc: Global) -> Result<Node, NoMemory> {
     })
 }
 
-#[test]
-fn a_file_is_read_back(rt: HostRuntime) -> Result<(), Fail> {
-    let alloc = rt.alloc();
+/// The graph of b.swift.
+fn graph_of_file(alloc: Global) -> Result<FileGraph, NoMemory> {
     let mut nodes = Vec::new(alloc);
     nodes.push(node_of_two(alloc)?)?;
     nodes.push(node_of_file(alloc)?)?;
-    let graph = FileGraph {
+    Ok(FileGraph {
         path: Path::from_str(alloc, "b.swift")?,
         nodes: Nodes::from_vec(nodes),
-    };
+    })
+}
+
+#[test]
+fn a_file_is_read_back(rt: HostRuntime) -> Result<(), Fail> {
+    let alloc = rt.alloc();
+    let graph = graph_of_file(alloc)?;
     let writable = is_writable(&graph);
     assert!(rt; writable);
     let text = encode(alloc, &graph)?;
     assert_eq!(rt; decode(alloc, text.as_slice()), Ok(graph));
+    Ok(())
+}
+
+/// The bytes with another version, which stands in the upper half of the byte 19.
+fn with_version(alloc: Global, text: &Text, version: u8) -> Result<Vec<u8>, NoMemory> {
+    let mut bytes = text.as_slice().to_vec(alloc)?;
+    if let Some(byte) = bytes.get_mut(19) {
+        *byte = *byte % 16 | version << 4;
+    }
+    Ok(bytes)
+}
+
+fn version_in(alloc: Global, bytes: &[u8]) -> Result<u64, DepsFault> {
+    let (header, _) = read_all(alloc, bytes)?;
+    Ok(header.version)
+}
+
+#[test]
+fn a_file_with_another_version(rt: HostRuntime) -> Result<(), Fail> {
+    let alloc = rt.alloc();
+    let graph = graph_of_file(alloc)?;
+    let writable = is_writable(&graph);
+    assert!(rt; writable);
+    let text = encode(alloc, &graph)?;
+    let third = with_version(alloc, &text, 3)?;
+    let (header, files) = read_all(alloc, third.as_slice()).expect(&rt, "version 3");
+    assert_eq!(rt; header, Header { version: 3 });
+    assert_eq!(rt; files.len(), 1);
+    assert_eq!(rt; files.first(), Some(&graph));
+    let first = with_version(alloc, &text, 1)?;
+    assert_eq!(rt;
+        version_in(alloc, first.as_slice()),
+        Err(DepsFault::Version { found: 1 })
+    );
     Ok(())
 }

@@ -1,32 +1,30 @@
 //! The one spelling that is written.
 
-ghost use Rattle.std.specs.Prelude.{◌≡◌, ◌∷◌, ◌++◌, [], OnOk, IfOk, Some, None, map, length, IsTrue, false};
+ghost use Rattle.std.specs.Prelude.{◌≡◌, ◌∷◌, [], OnOk, IfOk, Some, None, map, IsTrue, false};
 ghost use Rattle.std.specs.List.{flat_map};
-ghost use Rattle.bitstream.specs.Bits.{bits_of};
 ghost use Rattle.bitstream.specs.Reading.{Record, Enters};
 ghost use Rattle.bitstream.specs.Writer.{writing};
 ghost use Rattle.swiftdeps.specs.Stages.{is_version};
-ghost use Rattle.swiftdeps.specs.Spelling.{AreAscendingTexts, BytesSpell, key_numbers, node_items, file_items, identifier_item};
+ghost use Rattle.swiftdeps.specs.Spelling.{BytesSpell, key_numbers, node_items, file_items, identifier_item};
 ghost use Rattle.swiftdeps.specs.Shown.{Shows, AlsoShows, StandsForSpelling};
-ghost use Rattle.swiftdeps.specs.Written.{InBlock, IsStream, IsWritten, IsWritable, AreWritable, AreNamesOf, with_items, records, abbreviation_of, begun_block};
+ghost use Rattle.swiftdeps.specs.Written.{InBlock, IsStream, IsWritten, IsWritable, AreWritable, with_items, records, begun_block};
 
 use crate::fault::{DEPENDENCIES_VERSION, Header};
-use crate::names::{names_in, number_of};
+use crate::names::{Names, names_in};
 use crate::utf8::utf8_files;
 use bitstream::{AbbrevOp, BitWriter, NoMemory};
-use dep_key::{FileGraph, Key, Name, Node, Text};
+use dep_key::{FileGraph, Key, Node, Text};
 use std::alloc::Global;
 use std::slice;
 
 /// Writes a record that has a key.
-fn put_key(writer: &mut BitWriter, code: u64, names: &[Name], key: &Key) -> Result<(), NoMemory>
+fn put_key(writer: &mut BitWriter, code: u64, names: &Names, key: &Key) -> Result<(), NoMemory>
     requires block { InBlock (writing writer.old) }
-    requires names { AreAscendingTexts names.now }
     ensures written { OnOk result (writing writer.new ≡ with_items (Record code (key_numbers names.now key.now) None ∷ []) (writing writer.old)) }
     ensures shown { OnOk result (AlsoShows (Record code (key_numbers names.now key.now) None ∷ []) (writing writer.old) (writing writer.new)) }
 {
-    let context = number_of(names, &key.context);
-    let name = number_of(names, &key.name);
+    let context = names.number_of(key.context.as_str());
+    let name = names.number_of(key.name.as_str());
     let ops = [key.kind.number(), key.aspect.number(), context, name];
     writer.put_rec(code, &ops)?;
     Ok(())
@@ -52,9 +50,8 @@ fn put_print(writer: &mut BitWriter, print: &[u8]) -> Result<(), NoMemory>
     Ok(())
 }
 
-fn put_node(writer: &mut BitWriter, names: &[Name], node: &Node) -> Result<(), NoMemory>
+fn put_node(writer: &mut BitWriter, names: &Names, node: &Node) -> Result<(), NoMemory>
     requires block { InBlock (writing writer.old) }
-    requires names { AreAscendingTexts names.now }
     ensures written { OnOk result (writing writer.new ≡ with_items (node_items names.now node.now) (writing writer.old)) }
     ensures shown { OnOk result (AlsoShows (node_items names.now node.now) (writing writer.old) (writing writer.new)) }
 {
@@ -66,50 +63,37 @@ fn put_node(writer: &mut BitWriter, names: &[Name], node: &Node) -> Result<(), N
     Ok(())
 }
 
-fn put_file(
-    alloc: Global,
-    writer: &mut BitWriter,
-    names: &[Name],
-    file: &FileGraph,
-) -> Result<(), NoMemory>
+fn put_file(writer: &mut BitWriter, names: &Names, file: &FileGraph) -> Result<(), NoMemory>
     requires block { InBlock (writing writer.old) }
-    requires names { AreAscendingTexts names.now }
     ensures written { OnOk result (writing writer.new ≡ with_items (file_items names.now file.now) (writing writer.old)) }
     ensures shown { OnOk result (AlsoShows (file_items names.now file.now) (writing writer.old) (writing writer.new)) }
 {
-    let path = Name::from_str(alloc, file.path.as_str())?;
-    let number = number_of(names, &path);
-    writer.put_rec(6, &[number])?;
+    let path = names.number_of(file.path.as_str());
+    writer.put_rec(6, &[path])?;
     for node in file.nodes.as_slice() {
         put_node(writer, names, node)?;
     }
     Ok(())
 }
 
-fn put_identifiers(writer: &mut BitWriter, names: &[Name]) -> Result<(), NoMemory>
+fn put_identifiers(writer: &mut BitWriter, names: &Names) -> Result<(), NoMemory>
     requires { InBlock (writing writer.old) }
     ensures written { OnOk result (writing writer.new ≡ with_items (map identifier_item names.now) (writing writer.old)) }
     ensures shown { OnOk result (AlsoShows (map identifier_item names.now) (writing writer.old) (writing writer.new)) }
 {
-    for name in names {
+    for name in names.as_slice() {
         put_identifier(writer, name.as_str())?;
     }
     Ok(())
 }
 
-fn put_files(
-    alloc: Global,
-    writer: &mut BitWriter,
-    names: &[Name],
-    files: &[FileGraph],
-) -> Result<(), NoMemory>
+fn put_files(writer: &mut BitWriter, names: &Names, files: &[FileGraph]) -> Result<(), NoMemory>
     requires block { InBlock (writing writer.old) }
-    requires names { AreAscendingTexts names.now }
     ensures written { OnOk result (writing writer.new ≡ with_items (flat_map (file_items names.now) files.now) (writing writer.old)) }
     ensures shown { OnOk result (AlsoShows (flat_map (file_items names.now) files.now) (writing writer.old) (writing writer.new)) }
 {
     for file in files {
-        put_file(alloc, writer, names, file)?;
+        put_file(writer, names, file)?;
     }
     Ok(())
 }
@@ -134,8 +118,8 @@ fn write_block(alloc: Global, version: u64, files: &[FileGraph]) -> Result<Vec<u
     let names = names_in(alloc, files)?;
     let mut writer = begin(alloc)?;
     writer.put_rec(1, &[version])?;
-    put_identifiers(&mut writer, names.as_slice())?;
-    put_files(alloc, &mut writer, names.as_slice(), files)?;
+    put_identifiers(&mut writer, &names)?;
+    put_files(&mut writer, &names, files)?;
     writer.leave()?;
     Ok(writer.into_bytes().into_vec())
 }

@@ -1,8 +1,9 @@
-use Rattle.std.specs.Cmp.Lexicographic.{pointwise}
-use Rattle.std.proofs.Common.{nat_eq}
-use Rattle.std.proofs.lemmas.List.Filters.{dedup_is}
+use Rattle.std.proofs.Common.{ℕ, List, subst}
+use Rattle.swiftdeps.specs.Written.{texts_in, Adds}
 use Rattle.swiftdeps.proofs.NameLaws.{names_are}
 use Rattle.swiftdeps.proofs.names.names_in.Goals as goal
 
 pub returns : goal.returns
-returns c = names_are c.args.files.now c.in_ok-names.names.items c.sort_unstable.new.self.items c.dedup.new.self.items c.in_ok-names.ensures c.sort_unstable.ensures.permutation c.sort_unstable.ensures.sorted (dedup_is (pointwise nat_eq) c.sort_unstable.new.self.items c.dedup.new.self.items c.dedup.ensures.filtered)
+returns c =
+    names_are c.args.files.now c.add_files.new.texts c.in_ok-names.names (subst (λ (a : List (List ℕ)). Adds (texts_in c.args.files.now) a c.add_files.new.texts) c.new-met.ensures c.in_ok-add_files.ensures)
+    c.in_ok-names.ensures.permutation c.in_ok-names.ensures.ascending

@@ -29,7 +29,7 @@ returns-clause-shown c =
     let u = writing c.loop-node.writer in
     let given = whole_flat (node_items names) c.as_slice-node-items.result.now c.loop-node.node-index t u c.loop-node-test.false c.loop-node.invariant.shown in
     let nodes = subst (λ (x : List Node). AlsoShows (flat_map (node_items names) x) t u) c.as_slice-node-items.ensures given in
-    let number = c.number_of-number.ensures ∙ ap (number_of names) (c.in_ok-path.ensures ∙ c.as_str.ensures) in
-    let put = also_one (length s.bits) (Record 6 (c.number_of-number.result ∷ []) None) s t c.in_ok-put_rec.ensures.wrote in
+    let number = c.number_of-path.ensures ∙ ap (number_of names) c.as_str.ensures in
+    let put = also_one (length s.bits) (Record 6 (c.number_of-path.result ∷ []) None) s t c.in_ok-put_rec.ensures.wrote in
     let own = subst (λ (n : ℕ). AlsoShows (Record 6 (n ∷ []) None ∷ []) s t) number put in
     also_both (Record 6 (number_of names file.path ∷ []) None ∷ []) (flat_map (node_items names) file.nodes) s t u own nodes
