@@ -218,7 +218,7 @@ fn file_tree(
 /// first token that is `Unexpected` or the first bracket that is `TooDeep`, whichever comes first,
 /// `Unexpected` at the same token.
 pub fn parse_file(alloc: Global, path: &str, bytes: &[u8]) -> Result<FileTree, ParseFault>
-    ensures { Parses path.now bytes.now result }
+    ensures parses { Parses path.now bytes.now result }
 {
     if bytes.len() > MAX_FILE_BYTES {
         return Err(ParseFault::TooLarge);

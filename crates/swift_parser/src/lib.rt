@@ -17,6 +17,3 @@ pub use faults::ParseFault;
 pub use file::parse_file;
 pub use swift_ast::{FileTree, NoMemory, Text};
 pub use swift_token::{LexFault, LexWhat};
-
-#[cfg(test)]
-mod tests;

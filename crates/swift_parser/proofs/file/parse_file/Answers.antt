@@ -12,7 +12,9 @@ file_tree-requires-clause-tokens c =
     (subst (λ bytes. TellsTokens bytes (map leaf_of c.in-Ok-tokens.found.items)) c.in-Ok.ensures.cases.0 c.in-Ok-tokens.ensures)
 
 pub returns-in-Err-Fault : goal.returns-in-Err-Fault
-returns-in-Err-Fault c =
-    subst (λ z. IsOneFault c.args.path.now c.args.bytes.now (fault.Lex z)) (sym c.in-Err-Fault.fault-is)
-    (lexed c.args.path.now c.args.bytes.now c.in-Err-Fault.fault (omega (arith, c.if-bytes-gt-MAX_FILE_BYTES.false), c.in-Ok.ensures.cases.1)
-    (subst (λ bytes. TellsFault c.in-Err-Fault.fault bytes) c.in-Ok.ensures.cases.0 (subst (λ e. Lexes (Err e) c.in-Ok.text.now) c.in-Err-Fault.field-0-is c.in-Err-Fault.ensures)))
+returns-in-Err-Fault c = record {
+  parses =
+      subst (λ z. IsOneFault c.args.path.now c.args.bytes.now (fault.Lex z)) (sym c.in-Err-Fault.fault-is)
+      (lexed c.args.path.now c.args.bytes.now c.in-Err-Fault.fault (omega (arith, c.if-bytes-gt-MAX_FILE_BYTES.false), c.in-Ok.ensures.cases.1)
+      (subst (λ bytes. TellsFault c.in-Err-Fault.fault bytes) c.in-Ok.ensures.cases.0 (subst (λ e. Lexes (Err e) c.in-Ok.text.now) c.in-Err-Fault.field-0-is c.in-Err-Fault.ensures)));
+}
