@@ -1,0 +1,14 @@
+//! The declarations of a module by their keys.
+//!
+//! Each declaration of a file has keys by which other declarations ask for it (`docs/LANGUAGE.md`). The
+//! index answers which declarations have a key.
+#![tactic(auto)]
+
+mod declared;
+mod index;
+mod keys;
+mod private_structs;
+
+pub use declared::declared_keys;
+pub use dep_key::{Key, Keys, NoMemory};
+pub use index::{DeclRef, Index};
