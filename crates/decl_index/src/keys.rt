@@ -26,7 +26,8 @@ pub fn key_name(alloc: Global, path: &str, is_private: bool, name: &str) -> Resu
 {
     if is_private {
         let text = format!(in alloc; "{name}@{path}")?;
-        return Ok(Name::from_string(text));
+        let name = Name::from_string(text)?;
+        return Ok(name);
     }
     let name = Name::from_str(alloc, name)?;
     Ok(name)

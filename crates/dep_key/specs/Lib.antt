@@ -1,3 +1,4 @@
+pub mod Characters
 pub mod GraphOrder
 pub mod KeyOrder
 pub mod Scans

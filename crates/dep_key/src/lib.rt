@@ -4,6 +4,7 @@
 
 mod byte_list;
 mod characters;
+mod compact_characters;
 mod graph;
 mod key;
 mod kind;
@@ -15,6 +16,7 @@ mod texts;
 
 pub use byte_list::ByteList;
 pub use characters::Characters;
+pub use compact_characters::CompactCharacters;
 pub use graph::{FileGraph, Node, Unsorted};
 pub use key::Key;
 pub use kind::{Aspect, Kind};

@@ -14,7 +14,20 @@ fn paths_and_names_are_ordered_by_bytes(rt: HostRuntime) -> Result<(), Fail> {
     let upper = Name::from_str(alloc, "Z")?;
     let lower = Name::from_str(alloc, "a")?;
     assert!(rt; upper < lower);
-    assert_eq!(rt; upper.clone()?.into_string().as_str(), "Z");
+    assert_eq!(rt; upper.clone()?.as_str(), "Z");
+    Ok(())
+}
+
+#[test]
+fn short_and_long_names_are_copied(rt: HostRuntime) -> Result<(), Fail> {
+    let alloc = rt.alloc();
+    let short = Name::from_string(String::from_str(alloc, "sixteen_bytes_in")?)?;
+    let long = Name::from_string(String::from_str(alloc, "seventeen_bytes_in")?)?;
+    assert_eq!(rt; short.as_str().len(), 16);
+    assert_eq!(rt; short.clone()?.as_str(), "sixteen_bytes_in");
+    assert_eq!(rt; long.clone()?.as_str(), "seventeen_bytes_in");
+    assert_eq!(rt; Name::from_str(alloc, "seventeen_bytes_in")?, long);
+    assert!(rt; long < short);
     Ok(())
 }
 

@@ -1,6 +1,6 @@
 ghost use Rattle.std.specs.Prelude.{◌≡◌, string_bytes, IfOk};
 
-use crate::{ByteList, Characters};
+use crate::{ByteList, Characters, CompactCharacters};
 use std::alloc::{AllocError, Global};
 use std::marker::Model;
 
@@ -57,10 +57,11 @@ impl Path {
 
 /// The name of a file in the build folder, or a name that a source declares.
 ///
-/// Contracts see a name as the list of its bytes, which are UTF-8.
+/// A copy of a name takes no memory: up to 16 bytes stand in the name itself, and the characters of a
+/// longer one are shared by its copies. Contracts see a name as the list of its bytes, which are UTF-8.
 #[derive(Clone, Debug, Drop, PartialEq, Eq, PartialOrd, Ord)]
 pub struct Name {
-    text: Characters,
+    text: CompactCharacters,
 }
 
 impl Model for Name {
@@ -74,28 +75,20 @@ impl Model for Name {
 }
 
 impl Name {
-    /// The characters of a string, which takes no memory.
-    pub fn from_string(text: String) -> Name
-        ensures { result ≡ string_bytes text }
+    /// The characters of a string.
+    pub fn from_string(text: String) -> Result<Name, AllocError>
+        ensures { IfOk result (λ made. made ≡ string_bytes text) }
     {
-        Name {
-            text: Characters::from_string(text),
-        }
+        let text = CompactCharacters::from_string(text)?;
+        Ok(Name { text })
     }
 
     /// A copy of a string slice.
     pub fn from_str(alloc: Global, text: &str) -> Result<Name, AllocError>
         ensures { IfOk result (λ made. made ≡ text.now) }
     {
-        Ok(Name::from_string(String::from_str(alloc, text)?))
-    }
-
-    /// The string, which takes no memory.
-    pub fn into_string(self) -> String
-        ensures { string_bytes result ≡ self }
-    {
-        let Name { text } = self;
-        text.into_string()
+        let text = CompactCharacters::from_str(alloc, text)?;
+        Ok(Name { text })
     }
 
     /// The string as a slice.

@@ -38,7 +38,8 @@ pub fn object_name(alloc: Global, path: &str) -> Result<Name, NoMemory>
     let bytes = path.as_bytes();
     let name = name_bytes(alloc, &bytes[..bytes.len() - ENDING_BYTES])?;
     let name = String::from_utf8(name).unwrap();
-    Ok(Name::from_string(name))
+    let name = Name::from_string(name)?;
+    Ok(name)
 }
 
 // Puts the errors of an outcome behind the text so far.

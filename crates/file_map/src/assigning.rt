@@ -64,7 +64,8 @@ fn name_of(
         }
         None => {
             let name = format!(in alloc; "{base}{ending}")?;
-            Ok(Name::from_string(name))
+            let name = Name::from_string(name)?;
+            Ok(name)
         }
     }
 }
