@@ -1,11 +1,13 @@
 -- The next item, entry by entry.
-use Rattle.std.proofs.Common.{◌≡◌, ℕ, suc, ◌-◌, ◌<◌, true, false, List, [], ◌∷◌, length, drop, get_or, ◌==◌, arith, refl, sym, Ok, Err, Result, Some, None, Option}
+use Rattle.std.proofs.Common.{◌≡◌, ℕ, suc, ◌-◌, ◌<◌, true, false, List, [], ◌∷◌, length, drop, get_or, ◌==◌, arith, refl, sym, ◌∙◌, Ok, Err, Result, Some, None, Option}
 use Rattle.bitstream.specs.declared.item.BitFault.{BitFault}
 use Rattle.bitstream.specs.declared.item.AbbrevOp.{AbbrevOp}
+use Rattle.bitstream.specs.declared.item.AbbrevOp.TheVariants.{Literal, Vbr, Blob}
 use Rattle.bitstream.specs.Fields.{Place}
-use Rattle.bitstream.specs.Stream.{values_at, behind_numbers, Values}
+use Rattle.bitstream.proofs.ListLaws.{prefixed-none}
+use Rattle.bitstream.specs.Stream.{scalar_at, blob_at, values_at, behind_numbers, Values, numbers_at, prefixed, HasHead}
 use Rattle.bitstream.specs.Scopes.{abbrev_in}
-use Rattle.bitstream.specs.Reading.{Context, Seen, at_end, entry_at, next_at, judged, abbreviated_at}
+use Rattle.bitstream.specs.Reading.{Context, Seen, Record, at_end, entry_at, next_at, left_at, judged, abbreviated_at, blob_record_at, by_abbrev}
 
 pub next-some : (n left : ℕ) (c after : Context) (p q : Place) (s : Seen) → left ≡ suc n → at_end c p ≡ false → entry_at c p ≡ Ok ((Some s, after), q)
     → next_at left c p ≡ Ok ((p.at, s, after), q)
@@ -43,3 +45,22 @@ none_left (x ∷ xs) n none len = let h : (suc (length xs) == 0) ≡ true = rw (
 pub some_left : (xs : List ℕ) (n : ℕ) → (n == 0) ≡ false → length xs ≡ n → 0 < length xs
 some_left [] n some len = let h : (0 == 0) ≡ false = rw (sym len) at some in absurd (grind (arith, h))
 some_left (x ∷ xs) n some len = omega arith
+
+-- a record without an abbreviation comes next, in a block that isn't BLOCKINFO
+pub next-plain : (c : Context) (p d q : Place) (code count : ℕ) (numbers : List ℕ) → (length c.outer == 0) ≡ false → (c.scope.block == 0) ≡ false
+    → HasHead c.scope.width p 3 code count d → prefixed [] (numbers_at count (Vbr 6) d) ≡ Ok (numbers, q)
+    → next_at (left_at p) c p ≡ Ok ((p.at, Record code numbers None, c), q)
+next-plain c p d q code count numbers inside shows head numbers-are =
+    let all : numbers_at count (Vbr 6) d ≡ Ok (numbers, q) = sym (prefixed-none (numbers_at count (Vbr 6) d)) ∙ numbers-are in
+    let entry : entry_at c p ≡ Ok ((Some (Record code numbers None), c), q) = rw (head.2, inside, head.3, head.4, all, shows) refl in
+    next-some (length p.bits) (left_at p) c c p q (Record code numbers None) (omega arith) (rw inside refl) entry
+
+-- a record by an abbreviation that is a literal and a blob
+pub abbreviated-blob : (at id : ℕ) (c : Context) (p : Place) (code : ℕ) → abbrev_in c.scope c.known c.abbrevs (id - 4) ≡ Some (Literal code ∷ Blob ∷ [])
+    → abbreviated_at at id c p ≡ blob_record_at at code c p
+unfolding scalar_at
+abbreviated-blob at id c p code found = rw found (by_blob (blob_at p) refl)
+  where
+    by_blob : (r : Result (List ℕ × Place) BitFault) → blob_at p ≡ r → by_abbrev at id (Some (Literal code ∷ Blob ∷ [])) c p ≡ blob_record_at at code c p
+    by_blob (Ok b) is = rw is refl
+    by_blob (Err e) is = rw is refl

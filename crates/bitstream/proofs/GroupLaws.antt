@@ -163,3 +163,10 @@ near-step w sum shift d g d-is few low =
       low = below;
       fits = omega (arith, below, pow-le-pow_right {n = 2} (omega arith) {i = shift + (w - 1)} {j = 64} (omega (arith, few)));
     }
+
+-- a number of one group
+pub vbr-one : (w : ℕ) (p q : Place) (g : ℕ) → w ≤ 64 → fixed_at w p ≡ Ok (g, q) → g < 2 ^ (w - 1) → vbr_at w p ≡ Ok (g, q)
+unfolding vbr_at
+vbr-one w p q g narrow is low =
+    let fits : 0 + 2 ^ 0 * g < 2 ^ 64 = omega (arith, low, pow-le-pow_right {n = 2} (omega arith) {i = w - 1} {j = 64} (omega (arith, narrow))) in
+    vbr-last p.at w 0 0 p q g is low fits ∙ ap (λ n. Ok (n, q)) (omega arith)

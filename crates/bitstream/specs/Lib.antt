@@ -5,6 +5,7 @@ pub mod Entries
 pub mod Fields
 pub mod Items
 pub mod Known
+pub mod Operands
 pub mod Reader
 pub mod Reading
 pub mod Scopes

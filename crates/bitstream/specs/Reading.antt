@@ -11,7 +11,7 @@ use Rattle.bitstream.specs.declared.entry_reader.EntryReader.{EntryReader}
 use Rattle.bitstream.specs.declared.known.Known.{Known}
 use Rattle.bitstream.specs.declared.entry_reader.Scope.{Scope}
 use Rattle.bitstream.specs.Fields.{Place, place, fixed_at, vbr_at, ◌>>=◌}
-use Rattle.bitstream.specs.Stream.{align_at, opened_at, definition_at, numbers_at, values_at, slice_seen}
+use Rattle.bitstream.specs.Stream.{align_at, blob_at, opened_at, definition_at, numbers_at, values_at, slice_seen}
 use Rattle.bitstream.specs.Known.{known_for}
 use Rattle.bitstream.specs.Scopes.{abbrev_in}
 
@@ -130,6 +130,12 @@ plain_at at c p = do
   count ← vbr_at 6 code.1
   ops ← numbers_at count.0 (Vbr 6) count.1
   judged at code.0 ops.0 None c ops.1
+
+-- a record at `at` that has its code from its abbreviation, and a blob
+abbrev pub blob_record_at : ℕ → ℕ → Context → Place → Result ((Option Seen × Context) × Place) BitFault
+blob_record_at at code c p = do
+  blob ← blob_at p
+  judged at code [] (Some blob.0) c blob.1
 
 -- the first number of a record is its code
 abbrev pub judged_values : ℕ → List ℕ → Option (List ℕ) → Context → Place → Result ((Option Seen × Context) × Place) BitFault

@@ -204,3 +204,7 @@ unfoldable pub definition_at : ℕ → Place → Result (List AbbrevOp × Place)
 definition_at entered p = do
   count ← vbr_at 5 p
   if count.0 == 0 then Err (BadOperands entered) else ops_at entered count.0 true false count.1
+
+-- an id of w bits stands at the first place, then a code and a count, and the last place is behind these
+abbrev pub HasHead : ℕ → Place → ℕ → ℕ → ℕ → Place → Type 0
+HasHead w p id code count q = (a : Place) × (b : Place) × (fixed_at w p ≡ Ok (id, a)) × (vbr_at 6 a ≡ Ok (code, b)) × (vbr_at 6 b ≡ Ok (count, q))

@@ -1,10 +1,10 @@
 //! A place in the input, and the fields that stand there.
 
-ghost use Rattle.std.specs.Prelude.{◌≡◌, ◌≤◌, ◌*◌, ◌+◌, ◌-◌, ◌^◌, ◌<◌, ◌%◌, length, IfOk, OnOk, IsTrue};
+ghost use Rattle.std.specs.Prelude.{◌≡◌, ◌≤◌, ◌*◌, ◌+◌, ◌-◌, ◌^◌, ◌<◌, ◌%◌, length, Ok, IfOk, IfSome, OnOk, IsTrue};
 ghost use Rattle.bitstream.specs.Fields.{fixed_at, vbr_at, Gives, bytes_seen};
-ghost use Rattle.bitstream.specs.Stream.{align_at, bytes_at, blob_at, char6, has_width, scalar_at, opened_at};
+ghost use Rattle.bitstream.specs.Stream.{HasHead, align_at, bytes_at, blob_at, char6, has_width, scalar_at, opened_at};
 
-use crate::field::{fixed_field, vbr_field};
+use crate::field::{Head, fixed_field, near_field, near_head, vbr_field};
 use crate::slice::bytes_field;
 use crate::{AbbrevOp, BitFault};
 
@@ -94,6 +94,35 @@ impl<'b> Cursor<'b> {
                 Ok(value)
             }
             Err(fault) => Err(fault),
+        }
+    }
+
+    /// What stands before the operands of a record, behind which the cursor then stands.
+    #[inline(always)]
+    pub fn quick_head(&mut self, width: u32) -> Option<Head>
+        requires { width ≤ 32 }
+        ensures { IfSome result (λ head. HasHead width (here self.old) head.id head.code head.count (here self.new)) }
+    {
+        match near_head(self.bytes, self.at, width) {
+            Some(head) => {
+                self.at += (width + 12) as u128;
+                Some(head)
+            }
+            None => None,
+        }
+    }
+
+    /// A number in groups of six bits, where the eight bytes from it on have it.
+    #[inline(always)]
+    pub fn quick_vbr(&mut self) -> Option<u64>
+        ensures { IfSome result (λ v. vbr_at 6 (here self.old) ≡ Ok (v, here self.new)) }
+    {
+        match near_field(self.bytes, self.at, 6) {
+            Some((value, behind)) => {
+                self.at = behind;
+                Some(value)
+            }
+            None => None,
         }
     }
 

@@ -1,6 +1,7 @@
-ghost use Rattle.std.specs.Prelude.{◌≡◌, ◌≤◌, ◌*◌, ◌-◌, ◌<◌, All, length, IfSome, IsTrue};
+ghost use Rattle.std.specs.Prelude.{◌≡◌, ◌≤◌, ◌*◌, ◌-◌, ◌<◌, [], ◌∷◌, All, length, Ok, None, IfSome, IfNone, IsTrue};
 ghost use Rattle.std.specs.Option.{option_copied};
 ghost use Rattle.bitstream.specs.Fields.{fixed_at, vbr_at};
+ghost use Rattle.bitstream.specs.declared.item.AbbrevOp.TheVariants.{Literal, Blob};
 ghost use Rattle.bitstream.specs.Stream.{slice_seen, has_width};
 ghost use Rattle.bitstream.specs.Scopes.{abbrev_in};
 
@@ -8,6 +9,7 @@ use crate::cursor::Cursor;
 use crate::definition::Definition;
 use crate::known::KnownDefinitions;
 use crate::{AbbrevOp, BitFault, Item, Operands};
+use arrayvec::ArrayVec;
 use std::alloc::Global;
 
 /// A block that is open: the bit of its ENTER, its number, the width of its ids, how many
@@ -46,6 +48,16 @@ fn abbrev_of<'a>(
     Some(own[place as usize].as_slice())
 }
 
+/// The code of an abbreviation that is this literal and a blob.
+fn code_before_blob(ops: &[AbbrevOp]) -> Option<u64>
+    ensures { IfSome result (λ code. ops.now ≡ Literal code ∷ Blob ∷ []) }
+{
+    match ops {
+        [AbbrevOp::Literal(code), AbbrevOp::Blob] => Some(*code),
+        _ => None,
+    }
+}
+
 /// Reads the entries of a bitstream one by one. After a fault it stands anywhere.
 // Outside all blocks `outer` is empty, and `scope` has the width 2. `abbrevs` has what the open blocks
 // define themselves, the innermost's last.
@@ -63,7 +75,7 @@ pub struct EntryReader<'b> {
 }
 
 impl<'b> EntryReader<'b> {
-    ghost use Rattle.bitstream.specs.Reading.{at_end, context, left_at, EntryGives, ItemGives, outside, end_at, enter_at, define_at, judged, abbreviated_at, plain_at, entry_at, entry_by, next_at};
+    ghost use Rattle.bitstream.specs.Reading.{Record, at_end, context, left_at, EntryGives, ItemGives, outside, end_at, enter_at, define_at, judged, abbreviated_at, plain_at, blob_record_at, entry_at, entry_by, next_at};
     ghost use Rattle.bitstream.specs.Cursor.{here};
     ghost use Rattle.bitstream.specs.Fields.{Gives, place};
 
@@ -113,6 +125,29 @@ impl<'b> EntryReader<'b> {
         ensures { result ≡ at_end (context self.now) (here self.now.cursor) }
     {
         self.outer.is_empty() && self.cursor.left() == 0
+    }
+
+    /// The first bit and the code of the next item, and its operands, where that is a record without an
+    /// abbreviation that is read quickly. Where it isn't, the reader stays where it is.
+    #[inline(always)]
+    pub fn quick_record(&mut self, values: &mut ArrayVec<u64, 4>) -> Option<(u128, u64)>
+        requires { values.old.items ≡ [] }
+        ensures found { IfSome result (λ x. next_at (left_at (here self.old.cursor)) (context self.old) (here self.old.cursor) ≡ Ok ((x.0, Record x.1 values.new.items None, context self.old), here self.new.cursor)) }
+        ensures context { context self.new ≡ context self.old }
+        ensures none { IfNone result (here self.new.cursor ≡ here self.old.cursor) }
+    {
+        if self.outer.is_empty() || self.scope.block == 0 {
+            return None;
+        }
+        let at = self.cursor.at();
+        let mut cursor = self.cursor;
+        let head = cursor.quick_head(self.scope.width)?;
+        if head.id != 3 || head.count > 4 {
+            return None;
+        }
+        cursor.quick_numbers(head.count, values)?;
+        self.cursor = cursor;
+        Some((at, head.code))
     }
 
     /// The next item and its first bit.
@@ -284,6 +319,9 @@ impl<'b> EntryReader<'b> {
             Some(ops) => ops,
             None => return Err(BitFault::UnknownAbbrev { at, id }),
         };
+        if let Some(code) = code_before_blob(ops) {
+            return self.blob_record(at, code);
+        }
         let mut numbers = Vec::new(self.alloc);
         let blob = match self.cursor.values(ops, &mut numbers) {
             Ok(blob) => blob,
@@ -294,6 +332,17 @@ impl<'b> EntryReader<'b> {
         }
         let code = numbers.remove(0);
         self.record(at, code, numbers, blob)
+    }
+
+    /// A record at the bit `at` by an abbreviation that has its code and a blob.
+    fn blob_record(&mut self, at: u128, code: u64) -> Result<Option<Item<'b>>, BitFault>
+        ensures { EntryGives (context self.new) (here self.new.cursor) result (blob_record_at at code (context self.old) (here self.old.cursor)) }
+    {
+        let blob = match self.cursor.blob() {
+            Ok(blob) => blob,
+            Err(fault) => return Err(fault),
+        };
+        self.record(at, code, Vec::new(self.alloc), Some(blob))
     }
 
     /// What a record at the bit `at` is: an item, or in BLOCKINFO the name of a block.

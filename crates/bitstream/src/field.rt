@@ -1,6 +1,6 @@
 //! Numbers in bytes, from a bit on: of a fixed width, and in groups.
 
-ghost use Rattle.std.specs.Prelude.{◌≡◌, ◌≤◌, ◌*◌, ◌+◌, ◌/◌, ◌%◌, ◌^◌, ◌<◌, length, Ok, OnOk, IfOk, IfSome, IfNone};
+ghost use Rattle.std.specs.Prelude.{◌≡◌, ◌≤◌, ◌*◌, ◌+◌, ◌/◌, ◌%◌, ◌^◌, ◌<◌, length, Ok, OnOk, IfOk, IfSome, IfNone, OnSome};
 ghost use Rattle.bitstream.specs.Bits.{value, bits_of};
 ghost use Rattle.bitstream.specs.Fields.{fixed_at, vbr_at, place, Gives, GivesWith};
 
@@ -48,6 +48,41 @@ pub fn fixed_field(bytes: &[u8], at: u128, width: u32) -> Result<u64, BitFault>
     any_field(bytes, at, width)
 }
 
+/// What stands before the operands of a record without an abbreviation.
+#[derive(Clone, Copy)]
+pub struct Head {
+    pub id: u64,
+    pub code: u64,
+    pub count: u64,
+}
+
+/// An id of `width` bits from the bit `at` on, and a code and a count of one group each, where there
+/// are eight bytes from there on.
+#[inline(always)]
+pub fn near_head(bytes: &[u8], at: u128, width: u32) -> Option<Head>
+    requires width { width ≤ 32 }
+    requires at { at ≤ 8 * length bytes.now }
+    ensures id { IfSome result (λ head. fixed_at width (place bytes.now at) ≡ Ok (head.id, place bytes.now (at + width))) }
+    ensures code { IfSome result (λ head. vbr_at 6 (place bytes.now (at + width)) ≡ Ok (head.code, place bytes.now (at + (width + 6)))) }
+    ensures count { IfSome result (λ head. vbr_at 6 (place bytes.now (at + (width + 6))) ≡ Ok (head.count, place bytes.now (at + (width + 12)))) }
+    ensures end { OnSome result (at + (width + 12) ≤ 8 * length bytes.now) }
+{
+    let (_, rest) = bytes.split_at((at / 8) as usize);
+    let eight = match rest.first_chunk::<8>() {
+        Some(eight) => eight,
+        None => return None,
+    };
+    let skip = (at % 8) as u32;
+    let id = bits_in(eight, skip, width);
+    let code = bits_in(eight, skip + width, 6);
+    let count = bits_in(eight, skip + (width + 6), 6);
+    // The top bit of a group says that another one follows.
+    if code >= 32 || count >= 32 {
+        return None;
+    }
+    Some(Head { id, code, count })
+}
+
 /// The number in `width` bits from the bit `at` on, byte by byte.
 #[cold]
 #[inline(never)]
@@ -91,7 +126,7 @@ fn with_digit(sum: u64, digit: u64, shift: u128) -> Option<u64>
 /// The number in groups of `width` bits from the bit `at` on, and the bit behind it, where the eight
 /// bytes from there on have all its groups.
 #[inline(always)]
-fn near_field(bytes: &[u8], at: u128, width: u32) -> Option<(u64, u128)>
+pub fn near_field(bytes: &[u8], at: u128, width: u32) -> Option<(u64, u128)>
     requires some { 0 < width }
     requires width { width ≤ 32 }
     requires at { at ≤ 8 * length bytes.now }

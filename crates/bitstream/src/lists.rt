@@ -1,12 +1,14 @@
 //! Lists of numbers and of operands, read one by one, so that no claimed length makes a growth.
 
-ghost use Rattle.std.specs.Prelude.{◌≡◌, All, IfOk, IsTrue, true, false};
+ghost use Rattle.std.specs.Prelude.{◌≡◌, ◌≤◌, ◌+◌, length, All, Ok, IfOk, OnSome, IsTrue, true, false};
+ghost use Rattle.bitstream.specs.declared.item.AbbrevOp.TheVariants.{Vbr};
 ghost use Rattle.bitstream.specs.Cursor.{here};
 ghost use Rattle.bitstream.specs.Fields.{Gives};
 ghost use Rattle.bitstream.specs.Stream.{has_width, numbers_at, prefixed, op_at, encoded_at, may_stand as may_stand_lem, is_array as is_array_lem, is_blob as is_blob_lem, array_at, values_at, behind_numbers, GivesValues, ops_at, definition_at, GivesList, GivesInto};
 
 use crate::cursor::Cursor;
 use crate::{AbbrevOp, BitFault};
+use arrayvec::ArrayVec;
 use std::alloc::Global;
 
 fn is_array(op: AbbrevOp) -> bool
@@ -48,7 +50,6 @@ fn may_stand(first: bool, in_array: bool, more: u64, op: AbbrevOp) -> bool
 
 impl<'b> Cursor<'b> {
     /// Numbers that are written alike, put behind those that were read before.
-    #[inline(always)]
     pub fn numbers(
         &mut self,
         count: u64,
@@ -70,6 +71,25 @@ impl<'b> Cursor<'b> {
             i += 1;
         }
         Ok(())
+    }
+
+    /// A few numbers in groups of six bits, where the eight bytes from each on have it, put behind
+    /// those that were read before.
+    #[inline(always)]
+    pub fn quick_numbers(&mut self, count: u64, values: &mut ArrayVec<u64, 4>) -> Option<()>
+        requires { length values.old.items + count ≤ 4 }
+        ensures { OnSome result (prefixed values.old.items (numbers_at count (Vbr 6) (here self.old)) ≡ Ok (values.new.items, here self.new)) }
+    {
+        let mut i = 0u64;
+        'each: while i < count {
+            let number = match self.quick_vbr() {
+                Some(number) => number,
+                None => return None,
+            };
+            values.push(number);
+            i += 1;
+        }
+        Some(())
     }
 
     /// A length, and as many numbers, each written as the first operand says.

@@ -4,7 +4,8 @@ ghost use Rattle.bitstream.specs.Reading.{context};
 ghost use Rattle.bitstream.specs.Items.{IsSound};
 
 use crate::entry_reader::EntryReader;
-use crate::{BitFault, Item};
+use crate::{BitFault, Item, Operands};
+use arrayvec::ArrayVec;
 use std::alloc::Global;
 
 /// Reads a bitstream from the first bit of its bytes on.
@@ -94,6 +95,7 @@ impl<'b> BitReader<'b> {
     /// The next item, or `End` where no bit is left outside all blocks.
     ///
     /// Want of memory is answered as `NoMemory`; every other fault is the first one of the input.
+    #[inline(always)]
     pub fn next(&mut self) -> Result<Item<'b>, BitFault>
         ensures shown { IfOk result (λ item. seen item ≢ Ends → items_of (reading self.old) ≡ ((item_of (reading self.new), seen item) ∷ (items_of (reading self.new)).0, (items_of (reading self.new)).1)) }
         ensures ended { IfOk result (λ item. seen item ≡ Ends → items_of (reading self.old) ≡ ([], None)) }
@@ -110,7 +112,28 @@ impl<'b> BitReader<'b> {
         self.step()
     }
 
+    #[inline(always)]
     fn step(&mut self) -> Result<Item<'b>, BitFault>
+        ensures { NextGives (reading self.old) result (reading self.new) }
+    {
+        if let Some(fault) = self.fault {
+            return Err(fault);
+        }
+        let mut numbers = ArrayVec::new();
+        if let Some((at, code)) = self.entries.quick_record(&mut numbers) {
+            self.item = at;
+            return Ok(Item::Rec {
+                code,
+                ops: Operands::from_few(numbers),
+                blob: None,
+            });
+        }
+        self.any_item()
+    }
+
+    /// The next item, of any kind.
+    #[inline(never)]
+    fn any_item(&mut self) -> Result<Item<'b>, BitFault>
         ensures { NextGives (reading self.old) result (reading self.new) }
     {
         if let Some(fault) = self.fault {

@@ -1,10 +1,16 @@
-use Rattle.std.proofs.Common.{arith, ◌∙◌, ◌-◌, ap, sym, subst}
+use Rattle.std.proofs.Common.{arith, ◌∙◌, ◌-◌, ap, sym, subst, Some}
 use Rattle.bitstream.specs.Cursor.{here}
 use Rattle.bitstream.specs.Stream.{values_at, behind_numbers}
 use Rattle.bitstream.specs.Scopes.{abbrev_in}
 use Rattle.bitstream.specs.Reading.{EntryGives, context}
-use Rattle.bitstream.proofs.EntryReadingLaws.{abbreviated-is, abbreviated-none, behind-none, uncons, none_left, some_left}
+use Rattle.bitstream.proofs.EntryReadingLaws.{abbreviated-blob, abbreviated-is, abbreviated-none, behind-none, uncons, none_left, some_left}
 use Rattle.bitstream.proofs.entry_reader.EntryReader.abbreviated.Goals as goal
+
+pub returns-in-Some-code_before_blob : goal.returns-in-Some-code_before_blob
+returns-in-Some-code_before_blob c =
+    let found = ap (λ own. abbrev_in c.args.self.now.scope c.args.self.now.known.all.items own (c.args.id - 4)) (sym c.as_slice.ensures.value) ∙ sym c.in-Some.ensures.ops in
+    subst (λ r. EntryGives (context c.blob_record.new.self) (here c.blob_record.new.self.cursor) c.blob_record.result r)
+    (sym (abbreviated-blob c.args.at c.args.id (context c.args.self.now) _ c.in-Some-code_before_blob.code (found ∙ ap Some c.in-Some-code_before_blob.ensures))) c.blob_record.ensures
 
 pub returns-then-is_empty : goal.returns-then-is_empty
 returns-then-is_empty c =
