@@ -1,6 +1,6 @@
 //! What was read so far, and what the next item adds to it.
 
-ghost use Rattle.std.specs.Prelude.{◌≡◌, Ok};
+ghost use Rattle.std.specs.Prelude.{◌≡◌, [], Ok, IfOk, OnOk};
 ghost use Rattle.std.specs.Option.{option_copied};
 ghost use Rattle.bitstream.specs.Stream.{slice_seen};
 ghost use Rattle.bitstream.specs.Reading.{seen};
@@ -8,11 +8,12 @@ ghost use Rattle.swiftdeps.specs.Judging.{Gives, Moves, utf8_text, seen_blob, se
 ghost use Rattle.swiftdeps.specs.Collected.{state};
 
 use crate::fault::{DepsFault, Stop};
-use crate::keys::{key_in, text_of};
+use crate::identifiers::Identifiers;
+use crate::keys::key_in;
 use crate::stage::{Stage, is_version};
 use bitstream::Item;
 use dep_key::{FileGraph, Key, Keys, Name, Node, Nodes, Path, Text};
-use std::alloc::Global;
+use std::alloc::{AllocError, Global};
 use std::mem;
 
 /// What was read so far: the identifiers, the files before the last one, the path of the last one,
@@ -22,7 +23,7 @@ pub struct Collected {
     alloc: Global,
     stage: Stage,
     version: u64,
-    names: Vec<Name>,
+    identifiers: Identifiers,
     files: Vec<FileGraph>,
     path: Option<Path>,
     nodes: Vec<Node>,
@@ -32,6 +33,7 @@ pub struct Collected {
 }
 
 /// Whether a key is above the one before it, where there is one.
+#[inline(always)]
 fn is_above_key(before: Option<&Key>, key: &Key) -> bool
     ensures { result ≡ is_above_key (option_copied before.entry) key.now }
 {
@@ -91,24 +93,37 @@ fn utf8_text(at: u128, bytes: &[u8]) -> Result<&str, Stop>
     }
 }
 
+/// All items, in a vector that has room for no more. The other is left empty, and keeps its room.
+fn take_all<T: Drop>(alloc: Global, items: &mut Vec<T>) -> Result<Vec<T>, AllocError>
+    ensures taken { IfOk result (λ taken. taken.items ≡ items.old.items) }
+    ensures emptied { OnOk result (items.new.items ≡ []) }
+{
+    let mut taken = Vec::with_capacity(alloc, items.len())?;
+    taken.append(items)?;
+    Ok(taken)
+}
+
 impl Collected {
-    pub fn new(alloc: Global) -> Collected
-        ensures { state result ≡ nothing_read }
+    pub fn new(alloc: Global) -> Result<Collected, AllocError>
+        ensures { IfOk result (λ made. state made ≡ nothing_read) }
     {
-        Collected {
+        let identifiers = Identifiers::new(alloc)?;
+        Ok(Collected {
             alloc,
             stage: Stage::Start,
             version: 0,
-            names: Vec::new(alloc),
+            identifiers,
             files: Vec::new(alloc),
             path: None,
             nodes: Vec::new(alloc),
             key: None,
             print: Text::from_vec(Vec::new(alloc)),
             uses: Vec::new(alloc),
-        }
+        })
     }
 
+    #[cold]
+    #[inline(never)]
     #[tactic(auto, unfolding(crate::specs::Judging::block_at))]
     fn take_block(&mut self, at: u128, block: u32) -> Result<(), Stop>
         ensures { Moves (state self.new) result (block_at at block (state self.old)) }
@@ -120,6 +135,8 @@ impl Collected {
         Ok(())
     }
 
+    #[cold]
+    #[inline(never)]
     #[tactic(auto, unfolding(crate::specs::Judging::version_at))]
     fn take_version(
         &mut self,
@@ -158,11 +175,11 @@ impl Collected {
         ensures { Moves (state self.new) result (identifier_of at bytes.now (state self.old)) }
     {
         let text = utf8_text(at, bytes)?;
-        if text.is_empty() || !is_above_name(self.names.last(), text) {
+        if text.is_empty() || !is_above_name(self.identifiers.last(), text) {
             return Err(Stop::Fault(DepsFault::NotCanonicalOrder { at }));
         }
         let name = Name::from_str(self.alloc, text)?;
-        self.names.push(name)?;
+        self.identifiers.push(name)?;
         Ok(())
     }
 
@@ -170,9 +187,9 @@ impl Collected {
     fn close_node(&mut self) -> Result<(), Stop>
         ensures { Moves (state self.new) result (Ok (closed_node (state self.old))) }
     {
-        let print = mem::replace(&mut self.print, Text::from_vec(Vec::new(self.alloc)));
-        let uses = mem::replace(&mut self.uses, Vec::new(self.alloc));
+        let uses = take_all(self.alloc, &mut self.uses)?;
         let uses = Keys::from_vec(uses);
+        let print = mem::replace(&mut self.print, Text::from_vec(Vec::new(self.alloc)));
         if let Some(key) = self.key.take() {
             self.nodes.push(Node { key, print, uses })?;
         }
@@ -180,11 +197,13 @@ impl Collected {
     }
 
     /// Puts the last file behind the other files.
+    #[cold]
+    #[inline(never)]
     fn close_file(&mut self) -> Result<(), Stop>
         ensures { Moves (state self.new) result (Ok (closed_file (state self.old))) }
     {
         self.close_node()?;
-        let nodes = mem::replace(&mut self.nodes, Vec::new(self.alloc));
+        let nodes = take_all(self.alloc, &mut self.nodes)?;
         let nodes = Nodes::from_vec(nodes);
         if let Some(path) = self.path.take() {
             self.files.push(FileGraph { path, nodes })?;
@@ -192,6 +211,8 @@ impl Collected {
         Ok(())
     }
 
+    #[cold]
+    #[inline(never)]
     #[tactic(auto, unfolding(crate::specs::Judging::file_at))]
     fn take_file(
         &mut self,
@@ -205,8 +226,9 @@ impl Collected {
         if !self.stage.takes_file(is_single) || blob.is_some() || ops.len() != 1 {
             return Err(Stop::Fault(DepsFault::RecordOrder { at }));
         }
-        let name = text_of(self.alloc, self.names.as_slice(), at, ops[0])?;
-        self.add_file(at, Path::from_string(name.into_string()))
+        let name = self.identifiers.text(at, ops[0])?;
+        let path = Path::from_str(self.alloc, name.as_str())?;
+        self.add_file(at, path)
     }
 
     fn add_file(&mut self, at: u128, path: Path) -> Result<(), Stop>
@@ -231,7 +253,7 @@ impl Collected {
         if !self.stage.takes_node() {
             return Err(Stop::Fault(DepsFault::RecordOrder { at }));
         }
-        let key = key_in(self.alloc, self.names.as_slice(), at, ops, blob)?;
+        let key = key_in(&self.identifiers, at, ops, blob)?;
         if !is_above_key(self.key.as_ref(), &key) {
             return Err(Stop::Fault(DepsFault::NotCanonicalOrder { at }));
         }
@@ -255,6 +277,7 @@ impl Collected {
         Ok(())
     }
 
+    #[inline(always)]
     #[tactic(auto, unfolding(crate::specs::Judging::use_at))]
     fn take_use(&mut self, at: u128, ops: &[u64], blob: Option<&[u8]>) -> Result<(), Stop>
         ensures { Moves (state self.new) result (use_at at ops.now (slice_seen blob.entry) (state self.old)) }
@@ -262,7 +285,7 @@ impl Collected {
         if !self.stage.takes_use() {
             return Err(Stop::Fault(DepsFault::RecordOrder { at }));
         }
-        let key = key_in(self.alloc, self.names.as_slice(), at, ops, blob)?;
+        let key = key_in(&self.identifiers, at, ops, blob)?;
         if !is_above_key(self.uses.last(), &key) {
             return Err(Stop::Fault(DepsFault::NotCanonicalOrder { at }));
         }
@@ -270,6 +293,8 @@ impl Collected {
         Ok(())
     }
 
+    #[cold]
+    #[inline(never)]
     #[tactic(auto, unfolding(crate::specs::Judging::leave_at))]
     fn take_leave(&mut self, is_single: bool, at: u128) -> Result<(), Stop>
         ensures { Moves (state self.new) result (leave_at is_single at (state self.old)) }
@@ -281,6 +306,7 @@ impl Collected {
         Ok(())
     }
 
+    #[inline(always)]
     #[tactic(auto, unfolding(crate::specs::Judging::record_at))]
     fn take_record(
         &mut self,
@@ -304,6 +330,7 @@ impl Collected {
     }
 
     /// Takes the item that begins at a bit.
+    #[inline(always)]
     pub fn take(&mut self, is_single: bool, at: u128, item: &Item<'_>) -> Result<(), Stop>
         ensures { Moves (state self.new) result (item_at is_single at (seen item.now) (state self.old)) }
     {

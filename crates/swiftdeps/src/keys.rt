@@ -1,32 +1,15 @@
-//! Texts and keys by the numbers of their identifiers.
+//! Keys by the numbers of their identifiers.
 
 ghost use Rattle.bitstream.specs.Stream.{slice_seen};
 ghost use Rattle.dep_key.specs.KeyOrder.{kind_at, aspect_at};
 ghost use Rattle.swiftdeps.specs.declared.fault.DepsFault.TheVariants.{KindNumber};
-ghost use Rattle.swiftdeps.specs.Judging.{Gives, or_fault, text_of, key_of, key_in};
+ghost use Rattle.swiftdeps.specs.Judging.{Gives, or_fault, key_of, key_in};
 
 use crate::fault::{DepsFault, Stop};
-use dep_key::{Aspect, Key, Kind, Name};
-use std::alloc::Global;
+use crate::identifiers::Identifiers;
+use dep_key::{Aspect, Key, Kind};
 
-/// The text of a number: 0 is the empty one, and the identifiers count from 1.
-#[tactic(auto, unfolding(crate::specs::Judging::text_of))]
-pub fn text_of(alloc: Global, names: &[Name], at: u128, number: u64) -> Result<Name, Stop>
-    ensures { Gives result (text_of names.now at number) }
-{
-    if number == 0 {
-        let empty = Name::from_str(alloc, "")?;
-        return Ok(empty);
-    }
-    match names.get((number - 1) as usize) {
-        Some(name) => {
-            let copy = Name::from_str(alloc, name.as_str())?;
-            Ok(copy)
-        }
-        None => Err(Stop::Fault(DepsFault::IdentifierNumber { at, value: number })),
-    }
-}
-
+#[inline(always)]
 fn kind_of(at: u128, number: u64) -> Result<Kind, Stop>
     ensures { Gives result (or_fault (KindNumber at number) (kind_at number)) }
 {
@@ -36,6 +19,7 @@ fn kind_of(at: u128, number: u64) -> Result<Kind, Stop>
     }
 }
 
+#[inline(always)]
 fn aspect_of(at: u128, number: u64) -> Result<Aspect, Stop>
     ensures { Gives result (or_fault (KindNumber at number) (aspect_at number)) }
 {
@@ -46,22 +30,22 @@ fn aspect_of(at: u128, number: u64) -> Result<Aspect, Stop>
 }
 
 /// The key of a kind, an aspect, and the numbers of its context and its name.
+#[inline(always)]
 #[tactic(auto, unfolding(crate::specs::Judging::key_of))]
 fn key_of(
-    alloc: Global,
-    names: &[Name],
+    identifiers: &Identifiers,
     at: u128,
     kind: u64,
     aspect: u64,
     context: u64,
     name: u64,
 ) -> Result<Key, Stop>
-    ensures { Gives result (key_of names.now at kind aspect context name) }
+    ensures { Gives result (key_of identifiers.now at kind aspect context name) }
 {
     let kind = kind_of(at, kind)?;
     let aspect = aspect_of(at, aspect)?;
-    let context = text_of(alloc, names, at, context)?;
-    let name = text_of(alloc, names, at, name)?;
+    let context = identifiers.text(at, context)?;
+    let name = identifiers.text(at, name)?;
     let key = Key {
         kind,
         aspect,
@@ -75,19 +59,19 @@ fn key_of(
 }
 
 /// The key of the operands of a record without a blob.
+#[inline(always)]
 #[tactic(auto, unfolding(crate::specs::Judging::key_in))]
 pub fn key_in(
-    alloc: Global,
-    names: &[Name],
+    identifiers: &Identifiers,
     at: u128,
     ops: &[u64],
     blob: Option<&[u8]>,
 ) -> Result<Key, Stop>
-    ensures { Gives result (key_in names.now at ops.now (slice_seen blob.entry)) }
+    ensures { Gives result (key_in identifiers.now at ops.now (slice_seen blob.entry)) }
 {
     if blob.is_some() || ops.len() != 4 {
         return Err(Stop::Fault(DepsFault::RecordOrder { at }));
     }
-    let key = key_of(alloc, names, at, ops[0], ops[1], ops[2], ops[3])?;
+    let key = key_of(identifiers, at, ops[0], ops[1], ops[2], ops[3])?;
     Ok(key)
 }

@@ -6,6 +6,7 @@
 
 mod collected;
 mod fault;
+mod identifiers;
 mod keys;
 mod laws;
 mod names;

@@ -25,42 +25,49 @@ pub enum Stage {
 }
 
 impl Stage {
+    #[inline(always)]
     pub fn takes_block(self) -> bool
         ensures { result ≡ takes_block self }
     {
         matches!(self, Stage::Start)
     }
 
+    #[inline(always)]
     pub fn takes_version(self) -> bool
         ensures { result ≡ takes_version self }
     {
         matches!(self, Stage::Version)
     }
 
+    #[inline(always)]
     pub fn takes_identifier(self) -> bool
         ensures { result ≡ takes_identifier self }
     {
         matches!(self, Stage::Names)
     }
 
+    #[inline(always)]
     pub fn takes_node(self) -> bool
         ensures { result ≡ takes_node self }
     {
         matches!(self, Stage::Nodes | Stage::Uses)
     }
 
+    #[inline(always)]
     pub fn takes_print(self) -> bool
         ensures { result ≡ takes_print self }
     {
         matches!(self, Stage::Print)
     }
 
+    #[inline(always)]
     pub fn takes_use(self) -> bool
         ensures { result ≡ takes_use self }
     {
         matches!(self, Stage::Uses)
     }
 
+    #[inline(always)]
     pub fn is_behind(self) -> bool
         ensures { result ≡ is_behind self }
     {
@@ -68,6 +75,7 @@ impl Stage {
     }
 
     /// Whether a file may follow, where there may be one file alone or several.
+    #[inline(always)]
     pub fn takes_file(self, is_single: bool) -> bool
         ensures { result ≡ takes_file is_single self }
     {
@@ -75,6 +83,7 @@ impl Stage {
     }
 
     /// Whether the block may end, where there must be one file or may be none.
+    #[inline(always)]
     pub fn may_end(self, is_single: bool) -> bool
         ensures { result ≡ may_end is_single self }
     {

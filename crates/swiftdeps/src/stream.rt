@@ -31,7 +31,7 @@ pub fn read(alloc: Global, is_single: bool, bytes: &[u8]) -> Result<(u64, Vec<Fi
     ensures memory { (items_in bytes.now).1 ≢ Some NoMemory }
 {
     let mut reader = BitReader::new(alloc, bytes);
-    let mut collected = Collected::new(alloc);
+    let mut collected = Collected::new(alloc)?;
     'each: loop {
         match reader.next() {
             Ok(Item::End) => return collected.end(reader.at()),

@@ -4,4 +4,4 @@ use Rattle.swiftdeps.proofs.stream.read.Goals as goal
 
 pub each-init : goal.each-init
 unfolding stream_judged
-each-init c = record { bits = c.new-reader.ensures.total; read = rw (c.new-reader.ensures.items, c.new-collected.ensures) refl }
+each-init c = record { bits = c.new-reader.ensures.total; read = rw (c.new-reader.ensures.items, c.in_ok-collected.ensures) refl }
