@@ -27,9 +27,11 @@ use Rattle.swift_ast.specs.declared.expressions.Arg.{Arg}
 use Rattle.swift_ast.specs.declared.expressions.Atom.{Atom}
 use Rattle.swift_ast.specs.declared.expressions.Atom.TheVariants as atom
 use Rattle.swift_ast.specs.Leaves.{Leaf}
-use Rattle.swift_ast.specs.Tests.{on, is, is_prefix_operator, is_product_operator, is_sum_operator, is_cmp_operator, is_simple_atom, opens_args, begins_part, begins_expr}
+use Rattle.grammar.specs.Tests.{is_within}
+use Rattle.swift_ast.specs.Terminals.{terminals}
+use Rattle.swift_ast.specs.Tests.{Test, on, is, is_prefix_operator, is_product_operator, is_sum_operator, is_cmp_operator, is_infix_operator, is_simple_atom, opens_args, begins_part, begins_expr}
 use Rattle.swift_ast.specs.Expressions.{word, cmp_operator_form, sum_operator_form, product_operator_form, member_rule, parentheses_rule, expr_form, and_form, cmp_form, sum_form, product_form, prefix_form, postfix_form, part_form, args_form, arg_form, atom_form}
-use Rattle.swift_ast.proofs.TestFacts.{apart, within, sample, sample_on, some_token}
+use Rattle.swift_ast.proofs.TestFacts.{apart, within, stops_within, sample, sample_on, some_token}
 use Rattle.swift_ast.proofs.ExpressionShows.{ArgList, arg_list_form, expr_made, expr_shows, and_made, and_shows, cmp_made, cmp_shows, sum_made, sum_shows, product_made, product_shows, prefix_made, prefix_shows, postfix_made, postfix_shows, args_made, args_shows, arg_made, arg_shows, part_shows, atom_made, atom_shows, integer_is, string_is, true_is, false_is, name_is, self_is, parentheses_is, member_is, call_is}
 use Rattle.swift_ast.proofs.ExpressionLaws.{cmp_operator_begun, expr_some, arg_list_apart, expr_chains, and_chains, cmp_onces, cmp_joins, sum_chains, product_chains, prefix_joins, postfix_trails, arg_list_chains, arg_labels, arg_list_joins, parentheses_joins, atom_choices, part_choices, cmp_operator_ends, sum_operator_ends, product_operator_ends, atom_ends}
 
@@ -150,6 +152,36 @@ cmp_later {x} {o} {old} {mid} {late} {new} t u r = shown_refused cmp_shows (once
 
 pub cmp_done : {x y : Sum} {o : CmpOperator} {old mid late new : List Leaf} → Taken sum_form x (sum_form.goes_on x) old mid → Taken cmp_operator_form o nothing mid late → Taken sum_form y (sum_form.goes_on y) late new → Taken cmp_form (cmp_made (x, Some (o, y))) (cmp_form.goes_on (cmp_made (x, Some (o, y)))) old new
 cmp_done {x} {y} {o} {old} {mid} {late} {new} t u w = shown_took cmp_shows (once_taken (on is_cmp_operator) sum_form (both cmp_operator_form sum_form) x (o, y) t (taken_both (taken_ended cmp_operator_ends u) w))
+
+-- ---- a prefix that no operator stands behind
+
+pub no_infix : (test : Test) → is_within test is_infix_operator terminals ≡ true → (new : List Leaf) → Stops (on is_infix_operator) new → Stops (on test) new
+no_infix test e new s = stops_within test is_infix_operator new e s
+
+pub product_alone : {x : Prefix} {old new : List Leaf} → Taken prefix_form x (prefix_form.goes_on x) old new → Stops (on is_infix_operator) new → Taken product_form (product_made (x, [])) (product_form.goes_on (product_made (x, []))) old new
+product_alone {x} {old} {new} t s = product_done (x, []) (product_begun_with t) (no_infix is_product_operator refl new s)
+
+pub sum_alone : {x : Product} {old new : List Leaf} → Taken product_form x (product_form.goes_on x) old new → Stops (on is_infix_operator) new → Taken sum_form (sum_made (x, [])) (sum_form.goes_on (sum_made (x, []))) old new
+sum_alone {x} {old} {new} t s = sum_done (x, []) (sum_begun_with t) (no_infix is_sum_operator refl new s)
+
+pub and_alone : {x : Cmp} {old new : List Leaf} → Taken cmp_form x (cmp_form.goes_on x) old new → Stops (on is_infix_operator) new → Taken and_form (and_made (x, [])) (and_form.goes_on (and_made (x, []))) old new
+and_alone {x} {old} {new} t s = and_done (x, []) (and_begun_with t) (no_infix (is T.And) refl new s)
+
+pub expr_alone : {x : And} {old new : List Leaf} → Taken and_form x (and_form.goes_on x) old new → Stops (on is_infix_operator) new → Taken expr_form (expr_made (x, [])) (expr_form.goes_on (expr_made (x, []))) old new
+expr_alone {x} {old} {new} t s = expr_done (x, []) (expr_begun_with t) (no_infix (is T.Or) refl new s)
+
+-- the expression that a prefix is by itself
+abbrev pub lone_sum : Prefix → Sum
+lone_sum x = sum_made (product_made (x, []), [])
+
+abbrev pub lone_expr : Prefix → Expr
+lone_expr x = expr_made (and_made (cmp_made (lone_sum x, None), []), [])
+
+pub lone_taken : (x : Prefix) {old new : List Leaf} → Taken prefix_form x (prefix_form.goes_on x) old new → Stops (on is_infix_operator) new → Taken expr_form (lone_expr x) (expr_form.goes_on (lone_expr x)) old new
+lone_taken x {old} {new} t s = expr_alone (and_alone (cmp_alone (sum_alone (product_alone t s) s) (no_infix is_cmp_operator refl new s)) s) s
+
+pub lone_refused : {old new : List Leaf} → Refused prefix_form old new → Refused expr_form old new
+lone_refused {old} {new} r = expr_first (and_first (cmp_first (sum_first (product_first r))))
 
 -- ---- prefix
 
@@ -283,6 +315,6 @@ parentheses_inside t {old} {new} m r = parentheses_refused t m (behind_token (on
 pub parentheses_unclosed : (t : Leaf) {x : Expr} {old mid new : List Leaf} → on (is T.LeftParenthesis) t ≡ true → Taken expr_form x (expr_form.goes_on x) old mid → Refused (word T.RightParenthesis) mid new → Refused atom_form (t ∷ old) new
 parentheses_unclosed t {x} {old} {mid} {new} m u r = parentheses_refused t m (behind_token (on (is T.LeftParenthesis)) t m (behind parentheses_joins u r))
 
-pub parentheses_done : (t s : Leaf) {x : Expr} {old mid new : List Leaf} → on (is T.LeftParenthesis) t ≡ true → Taken expr_form x (expr_form.goes_on x) old mid → Taken (word T.RightParenthesis) s nothing mid new → Taken atom_form (atom.Parentheses t x s) (atom_form.goes_on (atom.Parentheses t x s)) (t ∷ old) new
+pub parentheses_done : (t s : Leaf) {x : Expr} {old mid new : List Leaf} → on (is T.LeftParenthesis) t ≡ true → Taken expr_form x (expr_form.goes_on x) old mid → Taken (word T.RightParenthesis) s nothing mid new → Taken atom_form (atom.Parentheses (t, x, s)) (atom_form.goes_on (atom.Parentheses (t, x, s))) (t ∷ old) new
 parentheses_done t s {x} {old} {mid} {new} m u w = subst (λ z. Taken atom_form z (atom_form.goes_on z) (t ∷ old) new) (parentheses_is t x s)
     (shown_took {y = inr (t, (x, s))} atom_shows (choice_took_right (token (on is_simple_atom)) (parentheses_rule expr_form) (taken_token (on (is T.LeftParenthesis)) t m (taken_both u w))))

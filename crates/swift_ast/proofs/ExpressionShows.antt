@@ -490,7 +490,7 @@ atom_parts (Atom-F.True t) = inl t
 atom_parts (Atom-F.False t) = inl t
 atom_parts (Atom-F.Name t) = inl t
 atom_parts (Atom-F.SelfValue t) = inl t
-atom_parts (Atom-F.Parentheses opening expr closing) = inr (opening, (expr, closing))
+atom_parts (Atom-F.Parentheses (opening, expr, closing)) = inr (opening, (expr, closing))
 
 abbrev pub atom_at : Terminal → Leaf → Atom-F Atom PostfixPart And Arg Args Cmp Expr Postfix Prefix Product Sum
 atom_at T.Integer t = Atom-F.Integer t
@@ -503,7 +503,7 @@ atom_at _ t = Atom-F.Integer t
 
 abbrev pub atom_layer : AtomParts → Atom-F Atom PostfixPart And Arg Args Cmp Expr Postfix Prefix Product Sum
 atom_layer (inl t) = atom_at (terminal t) t
-atom_layer (inr p) = Atom-F.Parentheses p.0 p.1.0 p.1.1
+atom_layer (inr p) = Atom-F.Parentheses (p.0, p.1.0, p.1.1)
 
 abbrev pub atom_out : Atom → AtomParts
 atom_out x = atom_parts (out-Atom x)
@@ -524,7 +524,7 @@ atom_tokens (Atom-F.True t) = refl
 atom_tokens (Atom-F.False t) = refl
 atom_tokens (Atom-F.Name t) = refl
 atom_tokens (Atom-F.SelfValue t) = refl
-atom_tokens (Atom-F.Parentheses opening expr closing) = refl
+atom_tokens (Atom-F.Parentheses (opening, expr, closing)) = refl
 
 atom_goes : (y : Atom-F Atom PostfixPart And Arg Args Cmp Expr Postfix Prefix Product Sum) → (atom_given y).goes_on ≡ atom_rule.goes_on (atom_parts y)
 atom_goes (Atom-F.Integer t) = refl
@@ -533,7 +533,7 @@ atom_goes (Atom-F.True t) = refl
 atom_goes (Atom-F.False t) = refl
 atom_goes (Atom-F.Name t) = refl
 atom_goes (Atom-F.SelfValue t) = refl
-atom_goes (Atom-F.Parentheses opening expr closing) = refl
+atom_goes (Atom-F.Parentheses (opening, expr, closing)) = refl
 
 atom_right : (y : Atom-F Atom PostfixPart And Arg Args Cmp Expr Postfix Prefix Product Sum) → (atom_given y).is_right ≡ true → atom_rule.is_right (atom_parts y) ≡ true
 atom_right (Atom-F.Integer t) r = within (is T.Integer) is_simple_atom refl t r
@@ -542,7 +542,7 @@ atom_right (Atom-F.True t) r = within (is T.True) is_simple_atom refl t r
 atom_right (Atom-F.False t) r = within (is T.False) is_simple_atom refl t r
 atom_right (Atom-F.Name t) r = within (is T.Identifier) is_simple_atom refl t r
 atom_right (Atom-F.SelfValue t) r = within (is T.SelfValue) is_simple_atom refl t r
-atom_right (Atom-F.Parentheses opening expr closing) r = r
+atom_right (Atom-F.Parentheses (opening, expr, closing)) r = r
 
 simple_there : (k : Terminal) (t : Leaf) → atom_parts (atom_at k t) ≡ inl t
 simple_there T.Integer t = refl
@@ -577,7 +577,7 @@ atom_back (Atom-F.True t) r = ap (λ k. atom_at k t) (is_terminal T.True t r)
 atom_back (Atom-F.False t) r = ap (λ k. atom_at k t) (is_terminal T.False t r)
 atom_back (Atom-F.Name t) r = ap (λ k. atom_at k t) (is_terminal T.Identifier t r)
 atom_back (Atom-F.SelfValue t) r = ap (λ k. atom_at k t) (is_terminal T.SelfValue t r)
-atom_back (Atom-F.Parentheses opening expr closing) r = refl
+atom_back (Atom-F.Parentheses (opening, expr, closing)) r = refl
 
 pub atom_shows : Shows atom_form atom_rule atom_out atom_made
 atom_shows = record {
@@ -609,8 +609,8 @@ name_is t m = ap (λ k. roll-Atom (atom_at k t)) (is_terminal T.Identifier t m) 
 pub self_is : (t : Leaf) → on (is T.SelfValue) t ≡ true → atom_made (inl t) ≡ atom.SelfValue t
 self_is t m = ap (λ k. roll-Atom (atom_at k t)) (is_terminal T.SelfValue t m) ∙ atom.rolls-SelfValue t
 
-pub parentheses_is : (a : Leaf) (x : Expr) (c : Leaf) → atom_made (inr (a, (x, c))) ≡ atom.Parentheses a x c
-parentheses_is a x c = atom.rolls-Parentheses a x c
+pub parentheses_is : (a : Leaf) (x : Expr) (c : Leaf) → atom_made (inr (a, (x, c))) ≡ atom.Parentheses (a, x, c)
+parentheses_is a x c = atom.rolls-Parentheses (a, x, c)
 
 pub member_is : (t s : Leaf) → part_made (inl (t, s)) ≡ part.Member t s
 member_is t s = part.rolls-Member t s

@@ -385,7 +385,7 @@ is_name_layer (Atom-F.True t) = false
 is_name_layer (Atom-F.False t) = false
 is_name_layer (Atom-F.Name t) = true
 is_name_layer (Atom-F.SelfValue t) = false
-is_name_layer (Atom-F.Parentheses opening expr closing) = false
+is_name_layer (Atom-F.Parentheses parts) = false
 
 abbrev pub all_members : List PostfixPart → Bool
 all_members [] = true
@@ -452,7 +452,7 @@ name_layer_back (Atom-F.True t) r = absurd (false≢true r)
 name_layer_back (Atom-F.False t) r = absurd (false≢true r)
 name_layer_back (Atom-F.Name t) r = refl
 name_layer_back (Atom-F.SelfValue t) r = absurd (false≢true r)
-name_layer_back (Atom-F.Parentheses opening expr closing) r = absurd (false≢true r)
+name_layer_back (Atom-F.Parentheses parts) r = absurd (false≢true r)
 
 member_layer_back : (y : PartLayer) → not (is_args_layer y) ≡ true → PostfixPart-F.Member (parts_pair (Rattle.swift_ast.proofs.ExpressionShows.part_parts y)).0 (parts_pair (Rattle.swift_ast.proofs.ExpressionShows.part_parts y)).1 ≡ y
 member_layer_back (PostfixPart-F.Member dot name) r = refl

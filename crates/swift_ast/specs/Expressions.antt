@@ -147,7 +147,7 @@ one_atom (Atom-F.True t) = reading (word T.True) t
 one_atom (Atom-F.False t) = reading (word T.False) t
 one_atom (Atom-F.Name t) = reading (word T.Identifier) t
 one_atom (Atom-F.SelfValue t) = reading (word T.SelfValue) t
-one_atom (Atom-F.Parentheses opening expr closing) = reading (parentheses_rule given) (opening, (expr, closing))
+one_atom (Atom-F.Parentheses (opening, expr, closing)) = reading (parentheses_rule given) (opening, (expr, closing))
 
 abbrev pub atom_reading : Atom → R
 atom_reading = fold-Atom R R R R R R R R R R R one_atom one_part one_and one_arg one_args one_cmp one_expr one_postfix one_prefix one_product one_sum

@@ -6,3 +6,4 @@ pub mod Statements
 pub mod Declarations
 pub mod Flattening
 pub mod Laws
+pub mod Texts

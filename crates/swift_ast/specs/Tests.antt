@@ -47,6 +47,14 @@ is_sum_operator = among (T.Plus ∷ T.Minus ∷ [])
 abbrev pub is_cmp_operator : Test
 is_cmp_operator = among (T.Equal ∷ T.NotEqual ∷ T.Less ∷ T.LessOrEqual ∷ T.Greater ∷ T.GreaterOrEqual ∷ [])
 
+-- the operators between two operands
+abbrev pub infix_operators : List Terminal
+infix_operators =
+    T.Equal ∷ T.NotEqual ∷ T.Less ∷ T.LessOrEqual ∷ T.Greater ∷ T.GreaterOrEqual ∷ T.Plus ∷ T.Minus ∷ T.Times ∷ T.Divide ∷ T.Remainder ∷ T.And ∷ T.Or ∷ []
+
+abbrev pub is_infix_operator : Test
+is_infix_operator = among infix_operators
+
 -- the bracket of arguments stands on the line of what is called
 abbrev pub opens_args : Test
 opens_args = on_same_line (is T.LeftParenthesis)

@@ -1,4 +1,4 @@
-ghost use Rattle.std.specs.Prelude.{◌≡◌};
+ghost use Rattle.std.specs.Prelude.{◌≡◌, [], ◌∷◌};
 ghost use Rattle.swift_ast.specs.Terminals.{keyword_terminal, mark_terminal, terminal_of};
 
 use crate::TokenKind;
@@ -105,35 +105,57 @@ fn keyword_terminal(text: &str) -> Terminal
     }
 }
 
+// The terminal of a mark of one byte.
+#[tactic(auto, unfolding(crate::specs::Terminals::mark_terminal))]
+fn short_mark_terminal(byte: u8) -> Terminal
+    ensures { result ≡ mark_terminal (byte ∷ []) }
+{
+    match byte {
+        b'(' => Terminal::LeftParenthesis,
+        b')' => Terminal::RightParenthesis,
+        b'{' => Terminal::LeftBrace,
+        b'}' => Terminal::RightBrace,
+        b',' => Terminal::Comma,
+        b':' => Terminal::Colon,
+        b'.' => Terminal::Dot,
+        b'=' => Terminal::Assign,
+        b'<' => Terminal::Less,
+        b'>' => Terminal::Greater,
+        b'+' => Terminal::Plus,
+        b'-' => Terminal::Minus,
+        b'*' => Terminal::Times,
+        b'/' => Terminal::Divide,
+        b'%' => Terminal::Remainder,
+        b'!' => Terminal::Not,
+        _ => Terminal::Unused,
+    }
+}
+
+// The terminal of a mark of two bytes.
+#[tactic(auto, unfolding(crate::specs::Terminals::mark_terminal))]
+fn long_mark_terminal(first: u8, second: u8) -> Terminal
+    ensures { result ≡ mark_terminal (first ∷ (second ∷ [])) }
+{
+    match (first, second) {
+        (b'-', b'>') => Terminal::Arrow,
+        (b'=', b'=') => Terminal::Equal,
+        (b'!', b'=') => Terminal::NotEqual,
+        (b'<', b'=') => Terminal::LessOrEqual,
+        (b'>', b'=') => Terminal::GreaterOrEqual,
+        (b'&', b'&') => Terminal::And,
+        (b'|', b'|') => Terminal::Or,
+        _ => Terminal::Unused,
+    }
+}
+
 // The terminal of a mark.
 #[tactic(auto, unfolding(crate::specs::Terminals::mark_terminal))]
 fn mark_terminal(text: &str) -> Terminal
     ensures { result ≡ mark_terminal text.now }
 {
-    match text {
-        "(" => Terminal::LeftParenthesis,
-        ")" => Terminal::RightParenthesis,
-        "{" => Terminal::LeftBrace,
-        "}" => Terminal::RightBrace,
-        "," => Terminal::Comma,
-        ":" => Terminal::Colon,
-        "." => Terminal::Dot,
-        "->" => Terminal::Arrow,
-        "=" => Terminal::Assign,
-        "==" => Terminal::Equal,
-        "!=" => Terminal::NotEqual,
-        "<" => Terminal::Less,
-        "<=" => Terminal::LessOrEqual,
-        ">" => Terminal::Greater,
-        ">=" => Terminal::GreaterOrEqual,
-        "+" => Terminal::Plus,
-        "-" => Terminal::Minus,
-        "*" => Terminal::Times,
-        "/" => Terminal::Divide,
-        "%" => Terminal::Remainder,
-        "&&" => Terminal::And,
-        "||" => Terminal::Or,
-        "!" => Terminal::Not,
+    match text.as_bytes() {
+        [byte] => short_mark_terminal(*byte),
+        [first, second] => long_mark_terminal(*first, *second),
         _ => Terminal::Unused,
     }
 }

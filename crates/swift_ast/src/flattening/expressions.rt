@@ -68,7 +68,8 @@ impl<'a> Work<'a> {
         ensures spells { OnOk result (Spells (cmp_form.tokens tree.now) self.old self.new) }
         ensures lightens { OnOk result (Lightens 9 self.old self.new) }
     {
-        if let Some((operator, right)) = &tree.right {
+        if let Some(right) = &tree.right {
+            let (operator, right) = right.get();
             self.put(Part::Sum(right))?;
             self.put(Part::One(cmp_operator(operator)))?;
             self.sum(&tree.left)?;
@@ -101,7 +102,7 @@ impl<'a> Work<'a> {
         ensures lightens { OnOk result (Lightens 13 self.old self.new) }
     {
         if let Some(operator) = &tree.operator {
-            self.emit(operator)?;
+            self.emit(operator.get())?;
             self.postfix(&tree.postfix)?;
             return Ok(());
         }
@@ -129,10 +130,11 @@ impl<'a> Work<'a> {
             Atom::False(t) => self.emit(t)?,
             Atom::Name(t) => self.emit(t)?,
             Atom::SelfValue(t) => self.emit(t)?,
-            Atom::Parentheses(opening, inner, closing) => {
+            Atom::Parentheses(parts) => {
+                let (opening, inner, closing) = parts.get();
                 self.emit(opening)?;
                 self.put(Part::One(closing))?;
-                self.put(Part::Expr(inner.get()))?;
+                self.put(Part::Expr(inner))?;
             }
         }
         Ok(())
@@ -147,7 +149,7 @@ impl<'a> Work<'a> {
                 self.emit(dot)?;
                 self.emit(name)?;
             }
-            PostfixPart::Call(args) => self.args(args)?,
+            PostfixPart::Call(args) => self.args(args.get())?,
         }
         Ok(())
     }
