@@ -15,6 +15,7 @@ use Rattle.swift_parser.specs.declared.tests_of_tokens.Test.TheVariants as test
 abbrev pub test_of : Test → tests.Test
 test_of (test.Is terminal) = tests.is terminal
 test_of test.PrefixOperator = tests.is_prefix_operator
+test_of test.InfixOperator = tests.is_infix_operator
 test_of test.OpensArgs = tests.opens_args
 test_of test.BeginsStmt = tests.begins_stmt
 test_of test.BeginsNextStmt = tests.begins_next_stmt
@@ -46,6 +47,10 @@ abbrev pub Reads : {X : Type 0} → Form Leaf X → Result X Stop → List Leaf 
 Reads f (Ok x) old new = Taken f x (f.goes_on x) old new
 Reads f (Err stop.Refused) old new = Refused f old new
 Reads f (Err stop.NoMemory) old new = Unit {0}
+
+-- where a tree in front was taken up to here, whatever stood before it, a tree that begins with it was taken, or the first fault is at hand
+abbrev pub ReadsBehind : {X Y : Type 0} → Form Leaf X → X → Form Leaf Y → Result Y Stop → List Leaf → List Leaf → Type 0
+ReadsBehind f x g result mid new = (old : List Leaf) → Taken f x (f.goes_on x) old mid → Reads g result old new
 
 -- a tree that begins with a token of the test was taken, or there is none such
 abbrev pub ReadsIf : {X : Type 0} → (Leaf → Bool) → Form Leaf X → Result (Option X) Stop → List Leaf → List Leaf → Type 0

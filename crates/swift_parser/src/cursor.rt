@@ -1,4 +1,4 @@
-ghost use Rattle.std.specs.Prelude.{◌≡◌, ◌≤◌, ◌<◌, IfOk, OnOk, map, length};
+ghost use Rattle.std.specs.Prelude.{◌≡◌, ◌≤◌, ◌<◌, IfOk, OnOk, OnErr, map, length};
 ghost use Rattle.grammar.specs.Forms.{token, begins_by};
 ghost use Rattle.swift_ast.specs.Leaves.{leaf_of};
 ghost use Rattle.swift_ast.specs.Terminals.{terminal};
@@ -103,7 +103,25 @@ impl<'a> Tokens<'a> {
         self.rest.len()
     }
 
+    /// Goes on behind the next token, and gives it.
+    #[inline(never)]
+    fn pass(
+        &mut self,
+        alloc: Global,
+        token: &Token<'_>,
+        rest: &'a [Token<'a>],
+    ) -> Result<Leaf, AllocError>
+        ensures leaf { IfOk result (λ made. made ≡ leaf_of token.now) }
+        ensures rest { OnOk result (self.new ≡ map leaf_of rest.now) }
+        ensures unread { OnErr result (self.new ≡ self.old) }
+    {
+        let leaf = leaf(alloc, token)?;
+        *self = Tokens::new(rest);
+        Ok(leaf)
+    }
+
     /// Takes the next token if it is of the test.
+    #[inline(always)]
     pub fn eat(&mut self, alloc: Global, test: Test) -> Result<Option<Leaf>, AllocError>
         ensures eaten { IfOk result (λ found. Eaten (on (test_of test)) found self.old self.new) }
         ensures shrinks { length self.new ≤ length self.old }
@@ -115,12 +133,12 @@ impl<'a> Tokens<'a> {
         if !test.holds(self.next, token.first_on_line) {
             return Ok(None);
         }
-        let leaf = leaf(alloc, token)?;
-        *self = Tokens::new(rest);
+        let leaf = self.pass(alloc, token, rest)?;
         Ok(Some(leaf))
     }
 
     /// Takes the next token, which is to be of the test.
+    #[inline]
     pub fn expect(&mut self, alloc: Global, test: Test) -> Result<Leaf, Stop>
         ensures reads { Reads (token (on (test_of test))) result self.old self.new }
         ensures shrinks { length self.new ≤ length self.old }
@@ -133,6 +151,7 @@ impl<'a> Tokens<'a> {
     }
 
     /// Whether the next token is of the test.
+    #[inline(always)]
     pub fn sees(&self, test: Test) -> bool
         ensures { result ≡ begins_by (on (test_of test)) self.now }
     {

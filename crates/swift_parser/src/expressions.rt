@@ -1,8 +1,11 @@
-ghost use Rattle.std.specs.Prelude.{◌≡◌, ◌≤◌, ◌<◌, ◌∷◌, true, length, IfOk};
+ghost use Rattle.std.specs.Prelude.{◌≡◌, ◌≤◌, ◌<◌, ◌∷◌, List, true, false, length, IfOk};
+ghost use Rattle.grammar.specs.Forms.{begins_by};
+ghost use Rattle.grammar.specs.Faults.{Stops, Taken};
+ghost use Rattle.swift_ast.specs.Leaves.{Leaf};
 ghost use Rattle.swift_ast.specs.declared.terminals.Terminal.TheVariants as T;
-ghost use Rattle.swift_ast.specs.Tests.{on, is, is_cmp_operator, is_sum_operator, is_product_operator, is_simple_atom, begins_part, opens_args};
+ghost use Rattle.swift_ast.specs.Tests.{on, is, is_prefix_operator, is_infix_operator, is_cmp_operator, is_sum_operator, is_product_operator, is_simple_atom, begins_part, opens_args};
 ghost use Rattle.swift_ast.specs.Expressions.{cmp_operator_form, sum_operator_form, product_operator_form, expr_form, and_form, cmp_form, sum_form, product_form, prefix_form, postfix_form, part_form, args_form, arg_form, atom_form, arg_list_rule};
-ghost use Rattle.swift_parser.specs.Reading.{Reads, ReadsIf, TakesIf, Shortens};
+ghost use Rattle.swift_parser.specs.Reading.{Reads, ReadsIf, ReadsBehind, TakesIf, Shortens};
 ghost use Rattle.swift_parser.specs.Nests.{Nests};
 
 use crate::cursor::Tokens;
@@ -102,6 +105,45 @@ fn simple_atom(alloc: Global, tokens: &mut Tokens<'_>) -> Result<Option<Atom>, A
     Ok(None)
 }
 
+/// An atom of one token, where no bracket stands next.
+#[inline(never)]
+fn lone_atom(alloc: Global, tokens: &mut Tokens<'_>) -> Result<Atom, Stop>
+    requires unopened { begins_by (on (is T.LeftParenthesis)) tokens.old ≡ false }
+    ensures reads { Reads atom_form result tokens.old tokens.new }
+    ensures shrinks { length tokens.new ≤ length tokens.old }
+{
+    match simple_atom(alloc, tokens)? {
+        Some(atom) => Ok(atom),
+        None => Err(Stop::Refused),
+    }
+}
+
+/// An expression that is a prefix by itself.
+fn lone_expr(alloc: Global, front: Prefix) -> Expr
+    ensures taken { (old new : List Leaf) → Taken prefix_form front (prefix_form.goes_on front) old new → Stops (on is_infix_operator) new → Taken expr_form result (expr_form.goes_on result) old new }
+{
+    let product = Product {
+        first: front,
+        more: Items::new(alloc),
+    };
+    let sum = Sum {
+        first: product,
+        more: Items::new(alloc),
+    };
+    let cmp = Cmp {
+        left: sum,
+        right: None,
+    };
+    let and = And {
+        first: cmp,
+        more: Items::new(alloc),
+    };
+    Expr {
+        first: and,
+        more: Items::new(alloc),
+    }
+}
+
 /// The rules of expressions, which take the reader of expressions in brackets as a parameter, so that
 /// each is proved by itself.
 #[derive(Clone, Copy)]
@@ -130,7 +172,22 @@ impl<F: Fn(Global, &mut Tokens<'_>, usize) -> Result<Expr, Stop>> Grammar<F> {
         ensures reads { Reads expr_form result tokens.old tokens.new }
         ensures shrinks { length tokens.new ≤ length tokens.old }
     {
-        let first = self.and(tokens)?;
+        let front = self.prefix(tokens)?;
+        if tokens.sees(Test::InfixOperator) {
+            return self.expr_behind(tokens, front);
+        }
+        Ok(lone_expr(self.alloc, front))
+    }
+
+    /// An expression behind its first prefix.
+    #[inline(never)]
+    fn expr_behind(&self, tokens: &mut Tokens<'_>, front: Prefix) -> Result<Expr, Stop>
+        requires nests { Nests self.now.limit (F.pre self.now.expr) (F.post self.now.expr) }
+        requires few { length tokens.old ≤ self.now.limit }
+        ensures reads { ReadsBehind prefix_form front expr_form result tokens.old tokens.new }
+        ensures shrinks { length tokens.new ≤ length tokens.old }
+    {
+        let first = self.and_behind(tokens, front)?;
         let mut more = Items::new(self.alloc);
         while let Some(operator) = tokens.eat(self.alloc, Test::Is(Terminal::Or))? {
             let operand = self.and(tokens)?;
@@ -145,7 +202,18 @@ impl<F: Fn(Global, &mut Tokens<'_>, usize) -> Result<Expr, Stop>> Grammar<F> {
         ensures reads { Reads and_form result tokens.old tokens.new }
         ensures shrinks { length tokens.new ≤ length tokens.old }
     {
-        let first = self.cmp(tokens)?;
+        let front = self.prefix(tokens)?;
+        self.and_behind(tokens, front)
+    }
+
+    /// The same behind its first prefix.
+    fn and_behind(&self, tokens: &mut Tokens<'_>, front: Prefix) -> Result<And, Stop>
+        requires nests { Nests self.now.limit (F.pre self.now.expr) (F.post self.now.expr) }
+        requires few { length tokens.old ≤ self.now.limit }
+        ensures reads { ReadsBehind prefix_form front and_form result tokens.old tokens.new }
+        ensures shrinks { length tokens.new ≤ length tokens.old }
+    {
+        let first = self.cmp_behind(tokens, front)?;
         let mut more = Items::new(self.alloc);
         while let Some(operator) = tokens.eat(self.alloc, Test::Is(Terminal::And))? {
             let operand = self.cmp(tokens)?;
@@ -160,14 +228,26 @@ impl<F: Fn(Global, &mut Tokens<'_>, usize) -> Result<Expr, Stop>> Grammar<F> {
         ensures reads { Reads cmp_form result tokens.old tokens.new }
         ensures shrinks { length tokens.new ≤ length tokens.old }
     {
-        let left = self.sum(tokens)?;
+        let front = self.prefix(tokens)?;
+        self.cmp_behind(tokens, front)
+    }
+
+    /// The same behind its first prefix.
+    fn cmp_behind(&self, tokens: &mut Tokens<'_>, front: Prefix) -> Result<Cmp, Stop>
+        requires nests { Nests self.now.limit (F.pre self.now.expr) (F.post self.now.expr) }
+        requires few { length tokens.old ≤ self.now.limit }
+        ensures reads { ReadsBehind prefix_form front cmp_form result tokens.old tokens.new }
+        ensures shrinks { length tokens.new ≤ length tokens.old }
+    {
+        let left = self.sum_behind(tokens, front)?;
         let Some(operator) = cmp_operator(self.alloc, tokens)? else {
             return Ok(Cmp { left, right: None });
         };
         let operand = self.sum(tokens)?;
+        let right = Boxed::new(self.alloc, (operator, operand))?;
         Ok(Cmp {
             left,
-            right: Some((operator, operand)),
+            right: Some(right),
         })
     }
 
@@ -177,7 +257,18 @@ impl<F: Fn(Global, &mut Tokens<'_>, usize) -> Result<Expr, Stop>> Grammar<F> {
         ensures reads { Reads sum_form result tokens.old tokens.new }
         ensures shrinks { length tokens.new ≤ length tokens.old }
     {
-        let first = self.product(tokens)?;
+        let front = self.prefix(tokens)?;
+        self.sum_behind(tokens, front)
+    }
+
+    /// The same behind its first prefix.
+    fn sum_behind(&self, tokens: &mut Tokens<'_>, front: Prefix) -> Result<Sum, Stop>
+        requires nests { Nests self.now.limit (F.pre self.now.expr) (F.post self.now.expr) }
+        requires few { length tokens.old ≤ self.now.limit }
+        ensures reads { ReadsBehind prefix_form front sum_form result tokens.old tokens.new }
+        ensures shrinks { length tokens.new ≤ length tokens.old }
+    {
+        let first = self.product_behind(tokens, front)?;
         let mut more = Items::new(self.alloc);
         while let Some(operator) = sum_operator(self.alloc, tokens)? {
             let operand = self.product(tokens)?;
@@ -192,13 +283,23 @@ impl<F: Fn(Global, &mut Tokens<'_>, usize) -> Result<Expr, Stop>> Grammar<F> {
         ensures reads { Reads product_form result tokens.old tokens.new }
         ensures shrinks { length tokens.new ≤ length tokens.old }
     {
-        let first = self.prefix(tokens)?;
+        let front = self.prefix(tokens)?;
+        self.product_behind(tokens, front)
+    }
+
+    /// The same behind its first prefix.
+    fn product_behind(&self, tokens: &mut Tokens<'_>, front: Prefix) -> Result<Product, Stop>
+        requires nests { Nests self.now.limit (F.pre self.now.expr) (F.post self.now.expr) }
+        requires few { length tokens.old ≤ self.now.limit }
+        ensures reads { ReadsBehind prefix_form front product_form result tokens.old tokens.new }
+        ensures shrinks { length tokens.new ≤ length tokens.old }
+    {
         let mut more = Items::new(self.alloc);
         while let Some(operator) = product_operator(self.alloc, tokens)? {
             let operand = self.prefix(tokens)?;
             more.push((operator, operand))?;
         }
-        Ok(Product { first, more })
+        Ok(Product { first: front, more })
     }
 
     fn prefix(&self, tokens: &mut Tokens<'_>) -> Result<Prefix, Stop>
@@ -207,10 +308,29 @@ impl<F: Fn(Global, &mut Tokens<'_>, usize) -> Result<Expr, Stop>> Grammar<F> {
         ensures reads { Reads prefix_form result tokens.old tokens.new }
         ensures shrinks { length tokens.new ≤ length tokens.old }
     {
-        let operator = tokens.eat(self.alloc, Test::PrefixOperator)?;
+        let Some(operator) = tokens.eat(self.alloc, Test::PrefixOperator)? else {
+            let operand = self.postfix(tokens)?;
+            return Ok(Prefix {
+                operator: None,
+                postfix: operand,
+            });
+        };
+        self.operand_behind(tokens, operator)
+    }
+
+    /// A prefix behind its operator.
+    #[inline(never)]
+    fn operand_behind(&self, tokens: &mut Tokens<'_>, operator: Leaf) -> Result<Prefix, Stop>
+        requires nests { Nests self.now.limit (F.pre self.now.expr) (F.post self.now.expr) }
+        requires few { length tokens.old ≤ self.now.limit }
+        requires operator { on is_prefix_operator operator ≡ true }
+        ensures reads { Reads prefix_form result (operator ∷ tokens.old) tokens.new }
+        ensures shrinks { length tokens.new ≤ length tokens.old }
+    {
+        let operator = Boxed::new(self.alloc, operator)?;
         let operand = self.postfix(tokens)?;
         Ok(Prefix {
-            operator,
+            operator: Some(operator),
             postfix: operand,
         })
     }
@@ -242,11 +362,13 @@ impl<F: Fn(Global, &mut Tokens<'_>, usize) -> Result<Expr, Stop>> Grammar<F> {
         }
         if let Some(opening) = tokens.eat(self.alloc, Test::OpensArgs)? {
             let args = self.args_behind(tokens, opening)?;
+            let args = Boxed::new(self.alloc, args)?;
             return Ok(Some(PostfixPart::Call(args)));
         }
         Ok(None)
     }
 
+    #[inline(never)]
     fn args_behind(&self, tokens: &mut Tokens<'_>, opening: Leaf) -> Result<Args, Stop>
         requires nests { Nests self.now.limit (F.pre self.now.expr) (F.post self.now.expr) }
         requires few { length tokens.old < self.now.limit }
@@ -302,13 +424,14 @@ impl<F: Fn(Global, &mut Tokens<'_>, usize) -> Result<Expr, Stop>> Grammar<F> {
         ensures reads { Reads atom_form result tokens.old tokens.new }
         ensures shrinks { length tokens.new ≤ length tokens.old }
     {
-        if let Some(simple) = simple_atom(self.alloc, tokens)? {
-            return Ok(simple);
+        if !tokens.sees(Test::Is(Terminal::LeftParenthesis)) {
+            return lone_atom(self.alloc, tokens);
         }
         let opening = tokens.expect(self.alloc, Test::Is(Terminal::LeftParenthesis))?;
         self.parentheses_behind(tokens, opening)
     }
 
+    #[inline(never)]
     fn parentheses_behind(&self, tokens: &mut Tokens<'_>, opening: Leaf) -> Result<Atom, Stop>
         requires nests { Nests self.now.limit (F.pre self.now.expr) (F.post self.now.expr) }
         requires few { length tokens.old < self.now.limit }
@@ -317,13 +440,14 @@ impl<F: Fn(Global, &mut Tokens<'_>, usize) -> Result<Expr, Stop>> Grammar<F> {
         ensures shrinks { length tokens.new ≤ length tokens.old }
     {
         let inner = self.inner(tokens)?;
-        let inner = Boxed::new(self.alloc, inner)?;
         let closing = tokens.expect(self.alloc, Test::Is(Terminal::RightParenthesis))?;
-        Ok(Atom::Parentheses(opening, inner, closing))
+        let parts = Boxed::new(self.alloc, (opening, inner, closing))?;
+        Ok(Atom::Parentheses(parts))
     }
 }
 
 /// An expression, where no more tokens are left than the limit.
+#[inline(never)]
 fn limited(alloc: Global, tokens: &mut Tokens<'_>, limit: usize) -> Result<Expr, Stop>
     requires { length tokens.old ≤ limit }
     ensures reads { Reads expr_form result tokens.old tokens.new }

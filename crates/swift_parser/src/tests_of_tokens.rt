@@ -1,5 +1,5 @@
 ghost use Rattle.std.specs.Prelude.{◌≡◌};
-ghost use Rattle.swift_ast.specs.Tests.{one_of, stmt_beginnings, decl_beginnings, struct_member_beginnings, extension_member_beginnings};
+ghost use Rattle.swift_ast.specs.Tests.{one_of, infix_operators, stmt_beginnings, decl_beginnings, struct_member_beginnings, extension_member_beginnings};
 ghost use Rattle.swift_parser.specs.Reading.{test_of};
 
 use swift_ast::Terminal;
@@ -12,6 +12,9 @@ pub enum Test {
 
     /// An operator before its operand.
     PrefixOperator,
+
+    /// An operator between two operands.
+    InfixOperator,
 
     /// The bracket of arguments, on the line of what is called.
     OpensArgs,
@@ -42,6 +45,28 @@ pub enum Test {
 
     /// The same, on a line of its own.
     BeginsNextExtensionMember,
+}
+
+/// Whether it is an operator between two operands.
+fn is_infix_operator(terminal: Terminal) -> bool
+    ensures { result ≡ one_of infix_operators terminal }
+{
+    matches!(
+        terminal,
+        Terminal::Equal
+            | Terminal::NotEqual
+            | Terminal::Less
+            | Terminal::LessOrEqual
+            | Terminal::Greater
+            | Terminal::GreaterOrEqual
+            | Terminal::Plus
+            | Terminal::Minus
+            | Terminal::Times
+            | Terminal::Divide
+            | Terminal::Remainder
+            | Terminal::And
+            | Terminal::Or
+    )
 }
 
 /// Whether a statement begins so.
@@ -117,12 +142,14 @@ fn begins_extension_member(terminal: Terminal) -> bool
 
 impl Test {
     /// Whether a token of the terminal is of the test, first on its line or not.
+    #[inline(always)]
     pub fn holds(self, terminal: Terminal, first_on_line: bool) -> bool
         ensures { result ≡ test_of self terminal first_on_line }
     {
         match self {
             Test::Is(wanted) => terminal == wanted,
             Test::PrefixOperator => matches!(terminal, Terminal::Minus | Terminal::Not),
+            Test::InfixOperator => is_infix_operator(terminal),
             Test::OpensArgs => terminal == Terminal::LeftParenthesis && !first_on_line,
             Test::BeginsStmt => begins_stmt(terminal),
             Test::BeginsNextStmt => begins_stmt(terminal) && first_on_line,

@@ -2,6 +2,7 @@ use Rattle.std.proofs.Common.{◌∷◌, sym, subst}
 use Rattle.grammar.specs.Forms.{token}
 use Rattle.grammar.specs.Faults.{Taken}
 use Rattle.swift_ast.specs.declared.terminals.Terminal.TheVariants as T
+use Rattle.swift_ast.specs.declared.expressions.Atom.TheVariants as atom
 use Rattle.swift_ast.specs.Tests.{on, is}
 use Rattle.swift_ast.specs.Expressions.{expr_form, atom_form}
 use Rattle.swift_ast.proofs.ExpressionExits as exits
@@ -16,4 +17,6 @@ returns-in_err-closing-clause-reads g c = passes (token (on (is T.RightParenthes
     (λ r. exits.parentheses_unclosed c.args.opening c.requires.opening c.in_ok-inner.ensures.reads r)
 
 pub returns-clause-reads : goal.returns-clause-reads
-returns-clause-reads g c = exits.parentheses_done c.args.opening c.in_ok-closing.closing c.requires.opening (subst (λ x. Taken expr_form x (expr_form.goes_on x) c.args.tokens.now c.inner.new.tokens) (sym c.in_ok-inner-2.ensures) c.in_ok-inner.ensures.reads) c.in_ok-closing.ensures.reads
+returns-clause-reads g c =
+    subst (λ parts. Taken atom_form (atom.Parentheses parts) (atom_form.goes_on (atom.Parentheses parts)) (c.args.opening ∷ c.args.tokens.now) c.expect.new.self) (sym c.in_ok-parts.ensures)
+    (exits.parentheses_done c.args.opening c.in_ok-closing.closing c.requires.opening c.in_ok-inner.ensures.reads c.in_ok-closing.ensures.reads)

@@ -1,0 +1,14 @@
+use Rattle.std.proofs.Common.{List, ◌≤◌, length}
+use Rattle.grammar.specs.Faults.{Taken}
+use Rattle.swift_ast.specs.Leaves.{Leaf}
+use Rattle.swift_ast.specs.Expressions.{prefix_form}
+use Rattle.swift_ast.proofs.ExpressionExits as exits
+use Rattle.swift_parser.proofs.expressions.Grammar.sum_behind.Given as goal
+
+abbrev pub invariant-loop-more : goal.invariant-loop-more
+invariant-loop-more g l =
+    ((old : List Leaf) → Taken prefix_form l.fn.front (prefix_form.goes_on l.fn.front) old l.fn.tokens → exits.SumSo (l.first, l.more) old l.tokens)
+    × (length l.tokens ≤ length l.fn.tokens)
+
+abbrev pub decreases-loop-more : goal.decreases-loop-more
+decreases-loop-more g l = length l.tokens
