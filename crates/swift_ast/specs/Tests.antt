@@ -122,8 +122,14 @@ abbrev pub begins_extension_member : Test
 begins_extension_member = among extension_member_beginnings
 
 -- brackets that open and close a level
+abbrev pub level_openings : List Terminal
+level_openings = T.LeftParenthesis ∷ T.LeftBrace ∷ []
+
 abbrev pub opens_level : Test
-opens_level = among (T.LeftParenthesis ∷ T.LeftBrace ∷ [])
+opens_level = among level_openings
+
+abbrev pub level_closings : List Terminal
+level_closings = T.RightParenthesis ∷ T.RightBrace ∷ []
 
 abbrev pub closes_level : Test
-closes_level = among (T.RightParenthesis ∷ T.RightBrace ∷ [])
+closes_level = among level_closings
