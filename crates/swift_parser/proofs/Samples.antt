@@ -13,6 +13,7 @@ abbrev pub sample_of : Test → Leaf
 sample_of (test.Is k) = sample true k
 sample_of test.PrefixOperator = sample true T.Not
 sample_of test.InfixOperator = sample true T.Plus
+sample_of test.BeginsPart = sample true T.Dot
 sample_of test.OpensArgs = sample false T.LeftParenthesis
 sample_of test.BeginsStmt = sample true T.Return
 sample_of test.BeginsNextStmt = sample true T.Return
@@ -31,6 +32,7 @@ pub sample_holds : (t : Test) → on (test_of t) (sample_of t) ≡ true
 sample_holds (test.Is k) = sample_on (test_of (test.Is k)) true k (equal_to_itself (number k))
 sample_holds test.PrefixOperator = sample_on (test_of test.PrefixOperator) true T.Not refl
 sample_holds test.InfixOperator = sample_on (test_of test.InfixOperator) true T.Plus refl
+sample_holds test.BeginsPart = sample_on (test_of test.BeginsPart) true T.Dot refl
 sample_holds test.OpensArgs = sample_on (test_of test.OpensArgs) false T.LeftParenthesis refl
 sample_holds test.BeginsStmt = sample_on (test_of test.BeginsStmt) true T.Return refl
 sample_holds test.BeginsNextStmt = sample_on (test_of test.BeginsNextStmt) true T.Return refl

@@ -16,6 +16,7 @@ abbrev pub test_of : Test → tests.Test
 test_of (test.Is terminal) = tests.is terminal
 test_of test.PrefixOperator = tests.is_prefix_operator
 test_of test.InfixOperator = tests.is_infix_operator
+test_of test.BeginsPart = tests.begins_part
 test_of test.OpensArgs = tests.opens_args
 test_of test.BeginsStmt = tests.begins_stmt
 test_of test.BeginsNextStmt = tests.begins_next_stmt

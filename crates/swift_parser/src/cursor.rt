@@ -28,7 +28,8 @@ impl<'a> Model for Tokens<'a> {
     ghost view = { λ t. map leaf_of t.rest.now };
 }
 
-fn terminal(token: &Token<'_>) -> Terminal
+/// What a token is to the grammar.
+pub fn terminal(token: &Token<'_>) -> Terminal
     ensures { result ≡ terminal (leaf_of token.now) }
 {
     Terminal::of(token.kind, token.text)

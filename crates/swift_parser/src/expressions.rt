@@ -342,6 +342,23 @@ impl<F: Fn(Global, &mut Tokens<'_>, usize) -> Result<Expr, Stop>> Grammar<F> {
         ensures shrinks { length tokens.new ≤ length tokens.old }
     {
         let front = self.atom(tokens)?;
+        if tokens.sees(Test::BeginsPart) {
+            return self.parts_behind(tokens, front);
+        }
+        Ok(Postfix {
+            atom: front,
+            parts: Items::new(self.alloc),
+        })
+    }
+
+    /// A postfix behind its atom.
+    #[inline(never)]
+    fn parts_behind(&self, tokens: &mut Tokens<'_>, front: Atom) -> Result<Postfix, Stop>
+        requires nests { Nests self.now.limit (F.pre self.now.expr) (F.post self.now.expr) }
+        requires few { length tokens.old ≤ self.now.limit }
+        ensures reads { ReadsBehind atom_form front postfix_form result tokens.old tokens.new }
+        ensures shrinks { length tokens.new ≤ length tokens.old }
+    {
         let mut parts = Items::new(self.alloc);
         while let Some(behind) = self.part(tokens)? {
             parts.push(behind)?;

@@ -1,11 +1,11 @@
 ghost use Rattle.std.specs.Prelude.{◌≡◌, ◌≤◌, length, map, Some, None};
 ghost use Rattle.swift_ast.specs.Leaves.{leaf_of};
-ghost use Rattle.swift_ast.specs.Tests.{on, opens_level, closes_level};
+ghost use Rattle.swift_ast.specs.Tests.{one_of, level_openings, level_closings};
 ghost use Rattle.swift_token.specs.Placing.{IsPlaceBehind};
 ghost use Rattle.swift_parser.specs.Whole.{DeepAt, IsReadable, IsUnexpectedHere, IsTooDeepHere, AreAll, DeclsGive, TellsTokens, Parses};
 
 use crate::ParseFault;
-use crate::cursor::Tokens;
+use crate::cursor::{Tokens, terminal};
 use crate::declarations::decls;
 use crate::stop::Stop;
 use sqlite_items::Items;
@@ -19,22 +19,16 @@ const MAX_FILE_BYTES: usize = 262_144;
 /// The most levels of brackets.
 const MAX_LEVELS: usize = 100;
 
-fn opens_level(token: &Token<'_>) -> bool
-    ensures { result ≡ on opens_level (leaf_of token.now) }
+fn opens_level(terminal: Terminal) -> bool
+    ensures { result ≡ one_of level_openings terminal }
 {
-    matches!(
-        Terminal::of(token.kind, token.text),
-        Terminal::LeftParenthesis | Terminal::LeftBrace
-    )
+    matches!(terminal, Terminal::LeftParenthesis | Terminal::LeftBrace)
 }
 
-fn closes_level(token: &Token<'_>) -> bool
-    ensures { result ≡ on closes_level (leaf_of token.now) }
+fn closes_level(terminal: Terminal) -> bool
+    ensures { result ≡ one_of level_closings terminal }
 {
-    matches!(
-        Terminal::of(token.kind, token.text),
-        Terminal::RightParenthesis | Terminal::RightBrace
-    )
+    matches!(terminal, Terminal::RightParenthesis | Terminal::RightBrace)
 }
 
 /// The place in the list of the first bracket that opens a level above the limit.
@@ -43,12 +37,13 @@ fn too_deep_at(tokens: &[Token<'_>]) -> Option<usize>
 {
     let mut held = 0;
     for (at, token) in tokens.iter().enumerate() {
-        if opens_level(token) {
+        let bracket = terminal(token);
+        if opens_level(bracket) {
             if held >= MAX_LEVELS {
                 return Some(at);
             }
             held += 1;
-        } else if closes_level(token) && held > 0 {
+        } else if closes_level(bracket) && held > 0 {
             held -= 1;
         }
     }

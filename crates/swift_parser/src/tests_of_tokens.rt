@@ -16,6 +16,9 @@ pub enum Test {
     /// An operator between two operands.
     InfixOperator,
 
+    /// The first token of what stands behind the atom of a postfix.
+    BeginsPart,
+
     /// The bracket of arguments, on the line of what is called.
     OpensArgs,
 
@@ -150,6 +153,10 @@ impl Test {
             Test::Is(wanted) => terminal == wanted,
             Test::PrefixOperator => matches!(terminal, Terminal::Minus | Terminal::Not),
             Test::InfixOperator => is_infix_operator(terminal),
+            Test::BeginsPart => {
+                terminal == Terminal::Dot
+                    || (terminal == Terminal::LeftParenthesis && !first_on_line)
+            }
             Test::OpensArgs => terminal == Terminal::LeftParenthesis && !first_on_line,
             Test::BeginsStmt => begins_stmt(terminal),
             Test::BeginsNextStmt => begins_stmt(terminal) && first_on_line,

@@ -1,26 +1,18 @@
-use Rattle.std.proofs.Common.{sym, subst, arith}
+use Rattle.std.proofs.Common.{sym, subst, ◌∙◌}
+use Rattle.grammar.proofs.Basics.{not_begins}
 use Rattle.swift_ast.specs.Tests.{on, begins_part}
-use Rattle.swift_ast.specs.Expressions.{postfix_form, part_form, atom_form}
+use Rattle.swift_ast.specs.Expressions.{postfix_form, atom_form}
 use Rattle.swift_ast.proofs.ExpressionExits as exits
-use Rattle.swift_parser.proofs.Exits.{passes, passes_if, found, none_found}
+use Rattle.swift_parser.proofs.Exits.{passes}
 use Rattle.swift_parser.proofs.expressions.Grammar.postfix.Goals as goal
 
 pub returns-in_err-front-clause-reads : goal.returns-in_err-front-clause-reads
 returns-in_err-front-clause-reads g c = passes atom_form postfix_form c.from_residual.result c.in_err-front.field-0.0 c.args.tokens.now c.atom.new.tokens c.args.tokens.now c.atom.new.tokens c.from_residual.ensures.1 c.in_err-front.ensures.reads (λ r. exits.postfix_first r)
 
-pub returns-in_err-behind-clause-reads : goal.returns-in_err-behind-clause-reads
-returns-in_err-behind-clause-reads g c = passes_if (on begins_part) part_form postfix_form c.from_residual-in_err-behind.result c.in_err-behind.field-0.0 c.loop-parts.tokens c.part.new.tokens c.args.tokens.now c.part.new.tokens c.from_residual-in_err-behind.ensures.1 c.in_err-behind.ensures.reads
-    (λ h r. exits.postfix_later (c.loop-parts.front-1, c.loop-parts.parts) c.loop-parts.invariant.0 h r)
-
-pub loop-parts-preserved : goal.loop-parts-preserved
-loop-parts-preserved g c =
-    let u = found (on begins_part) part_form c.in_ok-behind.field-0 c.in-Some.behind c.loop-parts.tokens c.part.new.tokens c.in_ok-behind.ensures.reads c.in-Some.is in (
-      subst (λ ps. exits.PostfixSo (c.loop-parts.front-1, ps) c.args.tokens.now c.part.new.tokens) (sym c.in_ok-push.ensures.ok)
-          (exits.postfix_pushed (c.loop-parts.front-1, c.loop-parts.parts) c.loop-parts.invariant.0 u),
-      omega (arith, c.loop-parts.invariant.1, c.in_ok-behind.ensures.shrinks),
-    )
+pub returns-then-sees-clause-reads : goal.returns-then-sees-clause-reads
+returns-then-sees-clause-reads g c = c.parts_behind.ensures.reads c.args.tokens.now c.in_ok-front.ensures.reads
 
 pub returns-clause-reads : goal.returns-clause-reads
-returns-clause-reads g c =
-    let e = none_found (on begins_part) part_form c.in_ok-behind.field-0 c.loop-parts.tokens c.part.new.tokens c.in_ok-behind.ensures.reads c.in_default.is in
-    exits.postfix_done (c.loop-parts.front-1, c.loop-parts.parts) (subst (λ ts. exits.PostfixSo (c.loop-parts.front-1, c.loop-parts.parts) c.args.tokens.now ts) e.0 c.loop-parts.invariant.0) e.1
+returns-clause-reads g c = exits.postfix_done (c.in_ok-front.front, c.new.result)
+    (subst (λ ps. exits.PostfixSo (c.in_ok-front.front, ps) c.args.tokens.now c.atom.new.tokens) (sym c.new.ensures) (exits.postfix_begun_with c.in_ok-front.ensures.reads))
+    (not_begins (on begins_part) c.atom.new.tokens (sym c.sees.ensures ∙ c.if-sees.false))
