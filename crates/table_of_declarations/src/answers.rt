@@ -6,7 +6,8 @@ use std::alloc::{AllocError, Global};
 use swift_ast::FileTree;
 use swift_parser::parse_file;
 
-fn tree_of(alloc: Global, path: &str, text: &str) -> Result<FileTree, AllocError> {
+/// The tree of a file, which has one.
+pub fn tree_of(alloc: Global, path: &str, text: &str) -> Result<FileTree, AllocError> {
     match parse_file(alloc, path, text.as_bytes()) {
         Ok(tree) => Ok(tree),
         Err(_) => Err(AllocError),

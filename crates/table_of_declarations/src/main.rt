@@ -1,16 +1,21 @@
 //! Prints the keys of the declarations of some projects, and which declarations have each of them.
 //!
 //! A line has the path of a file, the number of a declaration in it, one of its keys, and the
-//! declarations of the project that have the key, each as the number of its file and its own.
+//! declarations of the project that have the key, each as the number of its file and its own. With a
+//! number as its one argument it makes the index of a project of so many files, looks up each of its
+//! keys, and prints how many providers they have together.
 #![tactic(auto)]
 
 mod answers;
 mod cases;
+mod work;
 
 use answers::{index_of, shown_file, shown_providers};
 use anyhow::Error;
 use cases::{PROJECTS, Project};
 use decl_index::Index;
+use std::env::FillError;
+use std::rt::Env;
 
 // Prints the keys of the declarations of each file.
 fn print_files<R: Print + AllocGlobal>(rt: &R, index: &Index) -> Result<(), Error> {
@@ -35,9 +40,30 @@ fn print_project<R: Print + AllocGlobal>(rt: &R, project: &Project) -> Result<()
     print_asked(rt, &index, project.asked)
 }
 
-fn main(rt: HostRuntime) -> Result<(), Error> {
+// Prints the keys of the projects.
+fn print_table<R: Print + AllocGlobal>(rt: &R) -> Result<(), Error> {
     for project in &PROJECTS {
-        print_project(&rt, project)?;
+        print_project(rt, project)?;
     }
     Ok(())
+}
+
+// The number that is the first argument; None where there is none.
+fn asked<R: Env>(rt: &R) -> Option<usize> {
+    let mut buffer = [0u8; 16];
+    match rt.arg(1, &mut buffer) {
+        Ok(length) if length <= 16 => str::from_utf8(&buffer[..length]).ok()?.parse().ok(),
+        _ => None,
+    }
+}
+
+fn main(rt: HostRuntime) -> Result<(), Error> {
+    match asked(&rt) {
+        Some(files) => {
+            let count = work::providers(rt.alloc(), files)?;
+            println!(rt; "{count}")?;
+            Ok(())
+        }
+        None => print_table(&rt),
+    }
 }
