@@ -1,0 +1,52 @@
+//! The sizes of types.
+
+ghost use Rattle.std.specs.Prelude.{◌≡◌, IfOk};
+ghost use Rattle.type_rules.specs.Words.{nominal_key, field_words, words_of};
+
+use crate::{Answers, Meaning, Ty};
+use dep_key::{Aspect, Key, Kind, Name, NoMemory};
+use std::alloc::Global;
+
+/// The key of the stored properties of a struct.
+fn nominal_key(alloc: Global, context: &Name) -> Result<Key, NoMemory>
+    ensures { IfOk result (λ key. key ≡ nominal_key context.now) }
+{
+    let context = context.clone()?;
+    let name = Name::from_str(alloc, "")?;
+    Ok(Key {
+        kind: Kind::Nominal,
+        aspect: Aspect::Interface,
+        context,
+        name,
+    })
+}
+
+/// The words of the fields that a key means.
+fn field_words(meaning: &Meaning) -> Option<u64>
+    ensures { result ≡ field_words meaning.now }
+{
+    match meaning {
+        Meaning::Fields { words, .. } => Some(*words),
+        _ => None,
+    }
+}
+
+/// The words that a value of a type takes, those of a struct from its fields. `None` comes exactly where the
+/// key of the stored properties of the struct does not mean fields.
+///
+/// An error says that memory was wanted and not there.
+pub fn words<A: Answers>(alloc: Global, ty: &Ty, answers: &A) -> Result<Option<u64>, NoMemory>
+    ensures { IfOk result (λ found. found ≡ words_of (A.meanings answers.now) ty.now) }
+{
+    match ty {
+        Ty::Int => Ok(Some(1)),
+        Ty::String => Ok(Some(2)),
+        Ty::Bool => Ok(Some(1)),
+        Ty::Void => Ok(Some(0)),
+        Ty::Struct(context) => {
+            let key = nominal_key(alloc, context)?;
+            let words = field_words(answers.meaning(&key));
+            Ok(words)
+        }
+    }
+}
