@@ -8,7 +8,7 @@ use Rattle.swift_ast.specs.Tests.{on, is_access}
 use Rattle.swift_ast.specs.Declarations.{access_form}
 use Rattle.swift_ast.proofs.DeclarationLaws.{access_rule}
 use Rattle.swift_ast.proofs.DeclarationExits.{access_out, access_in}
-use Rattle.swift_parser.specs.Reading.{TakesIf}
+use Rattle.token_cursor.specs.Reading.{TakesIf}
 
 pub access_read : (a : Option Access) (old mid : List Leaf) → TakesIf (on is_access) access_form a old mid → Taken access_rule a (access_rule.goes_on a) old mid
 access_read (Some a) old mid e = access_in e

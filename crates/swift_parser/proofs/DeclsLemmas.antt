@@ -13,11 +13,11 @@ use Rattle.swift_ast.specs.Tests.{on, opens_level, closes_level}
 use Rattle.swift_ast.specs.Declarations.{decls_form}
 use Rattle.swift_ast.proofs.DeclarationLaws.{decls_one}
 use Rattle.swift_ast.proofs.DeclarationLevels.{decls_balanced}
-use Rattle.swift_parser.specs.declared.stop.Stop.{Stop}
-use Rattle.swift_parser.specs.declared.stop.Stop.TheVariants as stop
+use Rattle.token_cursor.specs.declared.stop.Stop.{Stop}
+use Rattle.token_cursor.specs.declared.stop.Stop.TheVariants as stop
 use Rattle.swift_parser.specs.declared.faults.ParseFault.{ParseFault}
 use Rattle.swift_parser.specs.declared.faults.ParseFault.TheVariants as fault
-use Rattle.swift_parser.specs.Reading.{Reads}
+use Rattle.token_cursor.specs.Reading.{Reads}
 use Rattle.swift_parser.specs.Whole.{DeepAt, DeclsGive, IsTooDeepHere, IsUnexpectedHere}
 
 -- tokens are left behind the last declaration

@@ -6,9 +6,9 @@ use Rattle.grammar.specs.Forms.{Form, token, begins_by, nothing}
 use Rattle.grammar.specs.Faults.{Stops, Taken, Refused}
 use Rattle.grammar.proofs.Basics.{stops_nothing}
 use Rattle.swift_ast.specs.Leaves.{Leaf}
-use Rattle.swift_parser.specs.declared.stop.Stop.{Stop}
-use Rattle.swift_parser.specs.declared.stop.Stop.TheVariants as stop
-use Rattle.swift_parser.specs.Reading.{Reads, ReadsIf, TakesIf, Eaten}
+use Rattle.token_cursor.specs.declared.stop.Stop.{Stop}
+use Rattle.token_cursor.specs.declared.stop.Stop.TheVariants as stop
+use Rattle.token_cursor.specs.Reading.{Reads, ReadsIf, TakesIf, Eaten}
 
 passes_at : {X Y : Type 0} (f : Form Leaf X) (g : Form Leaf Y) (e : Stop) (o n p m : List Leaf) → Reads f (Err e) o n → (Refused f o n → Refused g p m) → Reads g (Err e) p m
 passes_at f g stop.Refused o n p m r step = step r

@@ -1,4 +1,3 @@
-pub mod Samples
 pub mod Exits
 pub mod PartLemmas
 pub mod AnswerLemmas

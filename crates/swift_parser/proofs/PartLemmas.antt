@@ -8,7 +8,7 @@ use Rattle.swift_ast.specs.Tests.{on, is_prefix_operator}
 use Rattle.swift_ast.specs.Expressions.{expr_form, arg_form}
 use Rattle.swift_ast.proofs.ExpressionShows.{arg_made}
 use Rattle.swift_ast.proofs.ExpressionExits.{arg_behind_label, arg_no_label, arg_labelled, arg_plain, operator_rule, operator_in, operator_out}
-use Rattle.swift_parser.specs.Reading.{LabelEaten, Eaten}
+use Rattle.token_cursor.specs.Reading.{LabelEaten, Eaten}
 
 pub arg_stopped : (label : Option (Leaf × Leaf)) (old mid new : List Leaf) → LabelEaten label old mid → Refused expr_form mid new → Refused arg_form old new
 arg_stopped (Some p) old mid new e r = refused_from arg_form (p.0 ∷ (p.1 ∷ mid)) old new (arg_behind_label p.0 p.1 e.1 e.2 r) e.0

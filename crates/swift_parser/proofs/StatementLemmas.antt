@@ -26,7 +26,7 @@ use Rattle.swift_ast.proofs.StatementLaws.{specifier_begun, stmt_begun, stmt_lin
 use Rattle.swift_ast.proofs.StatementExits as exits
 use Rattle.swift_ast.proofs.DeclarationShows.{global_shows, global_out, global_made}
 use Rattle.swift_ast.proofs.AssignLemmas.{TellsAssign, TargetStands, target_stands, stands_not_refused, stands_before, no_assign_behind}
-use Rattle.swift_parser.specs.Reading.{goes_on_to_assign, begins_assign}
+use Rattle.token_cursor.specs.Reading.{goes_on_to_assign, begins_assign}
 
 -- ---- bindings
 

@@ -7,8 +7,8 @@ use Rattle.swift_ast.specs.declared.statements.Block.{Block}
 use Rattle.swift_ast.specs.Leaves.{Leaf}
 use Rattle.swift_ast.specs.Expressions.{expr_form}
 use Rattle.swift_ast.specs.Statements.{block_form}
-use Rattle.swift_parser.specs.declared.stop.Stop.{Stop}
-use Rattle.swift_parser.specs.Reading.{Reads}
+use Rattle.token_cursor.specs.declared.stop.Stop.{Stop}
+use Rattle.token_cursor.specs.Reading.{Reads}
 
 pub record Nests (limit : ℕ) (pre : Global → MutBor (List Leaf) → ℕ → Type 0) (post : Global → MutBor (List Leaf) → ℕ → Result Expr Stop → MutBor (List Leaf) → Type 0) : Type 0 where
   pub callable : (alloc : Global) (old : MutBor (List Leaf)) → length old.now < limit → pre alloc old (limit - 1)

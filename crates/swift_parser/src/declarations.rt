@@ -5,19 +5,17 @@ ghost use Rattle.swift_ast.specs.declared.terminals.Terminal.TheVariants as T;
 ghost use Rattle.swift_ast.specs.Tests.{on, is, is_access, is_label, begins_struct_member, begins_extension_member, on_new_line};
 ghost use Rattle.swift_ast.specs.Expressions.{expr_form};
 ghost use Rattle.swift_ast.specs.Declarations.{access_form, param_form, params_rule, result_rule, func_form, initial_rule, stored_value_form, stored_form, computed_form, struct_member_form, with_access, struct_form, extension_member_form, extension_form, alias_form, named_form, decl_form, decls_form};
-ghost use Rattle.swift_parser.specs.Reading.{Reads, TakesIf, Shortens};
+ghost use Rattle.token_cursor.specs.Reading.{Reads, TakesIf, Shortens};
 
-use crate::cursor::Tokens;
 use crate::expressions::expr;
 use crate::statements::{binding_behind, block, specifier, type_name};
-use crate::stop::Stop;
-use crate::tests_of_tokens::Test;
 use sqlite_items::Items;
 use std::alloc::{AllocError, Global};
 use swift_ast::{
     Access, Alias, BindingSpecifier, Computed, Decl, Expr, Extension, ExtensionMember, Func, Leaf,
     NamedDecl, Param, Stored, StoredValue, Struct, StructMember, Terminal, TypeName,
 };
+use token_cursor::{Stop, Test, Tokens};
 
 /// Who may see a declaration, if it is said next.
 fn access(alloc: Global, tokens: &mut Tokens<'_>) -> Result<Option<Access>, AllocError>

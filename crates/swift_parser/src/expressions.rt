@@ -5,18 +5,16 @@ ghost use Rattle.swift_ast.specs.Leaves.{Leaf};
 ghost use Rattle.swift_ast.specs.declared.terminals.Terminal.TheVariants as T;
 ghost use Rattle.swift_ast.specs.Tests.{on, is, is_prefix_operator, is_infix_operator, is_cmp_operator, is_sum_operator, is_product_operator, is_simple_atom, begins_part, opens_args};
 ghost use Rattle.swift_ast.specs.Expressions.{cmp_operator_form, sum_operator_form, product_operator_form, expr_form, and_form, cmp_form, sum_form, product_form, prefix_form, postfix_form, part_form, args_form, arg_form, atom_form, arg_list_rule};
-ghost use Rattle.swift_parser.specs.Reading.{Reads, ReadsIf, ReadsBehind, TakesIf, Shortens};
+ghost use Rattle.token_cursor.specs.Reading.{Reads, ReadsIf, ReadsBehind, TakesIf, Shortens};
 ghost use Rattle.swift_parser.specs.Nests.{Nests};
 
-use crate::cursor::Tokens;
-use crate::stop::Stop;
-use crate::tests_of_tokens::Test;
 use sqlite_items::{Boxed, Items};
 use std::alloc::{AllocError, Global};
 use swift_ast::{
     And, Arg, Args, Atom, Cmp, CmpOperator, Expr, Leaf, Postfix, PostfixPart, Prefix, Product,
     ProductOperator, Sum, SumOperator, Terminal,
 };
+use token_cursor::{Stop, Test, Tokens};
 
 fn cmp_operator(alloc: Global, tokens: &mut Tokens<'_>) -> Result<Option<CmpOperator>, AllocError>
     ensures takes { IfOk result (λ found. TakesIf (on is_cmp_operator) cmp_operator_form found tokens.old tokens.new) }

@@ -5,13 +5,12 @@ ghost use Rattle.swift_token.specs.Placing.{IsPlaceBehind};
 ghost use Rattle.swift_parser.specs.Whole.{DeepAt, IsReadable, IsUnexpectedHere, IsTooDeepHere, AreAll, DeclsGive, TellsTokens, Parses};
 
 use crate::ParseFault;
-use crate::cursor::{Tokens, terminal};
 use crate::declarations::decls;
-use crate::stop::Stop;
 use sqlite_items::Items;
 use std::alloc::Global;
 use swift_ast::{Decl, FileTree, Terminal, Text, Token};
 use swift_token::{LexEnd, Place, tokens};
+use token_cursor::{Stop, Tokens, terminal};
 
 /// The most bytes that a source file may have.
 const MAX_FILE_BYTES: usize = 262_144;

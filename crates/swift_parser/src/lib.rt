@@ -4,14 +4,11 @@
 //! `docs/LANGUAGE.md`, and as definitions in the crate `swift_ast`.
 #![tactic(auto)]
 
-mod cursor;
 mod declarations;
 mod expressions;
 mod faults;
 mod file;
 mod statements;
-mod stop;
-mod tests_of_tokens;
 
 pub use faults::ParseFault;
 pub use file::parse_file;

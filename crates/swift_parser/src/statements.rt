@@ -6,18 +6,16 @@ ghost use Rattle.swift_ast.specs.Tests.{on, is, is_specifier, begins_stmt, begin
 ghost use Rattle.swift_ast.specs.Statements.{specifier_form, type_form, annotation_rule, stmt_form, block_form, else_if_form, if_form, target_form, else_parts_rule};
 ghost use Rattle.swift_ast.specs.Declarations.{global_form};
 ghost use Rattle.swift_parser.specs.Nests.{NestsBlock};
-ghost use Rattle.swift_parser.specs.Reading.{Reads, TakesIf, Shortens, begins_assign};
+ghost use Rattle.token_cursor.specs.Reading.{Reads, TakesIf, Shortens, begins_assign};
 
-use crate::cursor::Tokens;
 use crate::expressions::{expr, postfix};
-use crate::stop::Stop;
-use crate::tests_of_tokens::Test;
 use sqlite_items::Items;
 use std::alloc::{AllocError, Global};
 use swift_ast::{
     BindingSpecifier, Block, Call, ElseIf, Global as GlobalDecl, If, Leaf, Postfix, PostfixPart,
     Stmt, Target, Terminal, TypeName,
 };
+use token_cursor::{Stop, Test, Tokens};
 
 /// `let` or `var`, if one stands next.
 pub fn specifier(

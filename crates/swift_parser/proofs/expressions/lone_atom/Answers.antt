@@ -7,9 +7,9 @@ use Rattle.swift_ast.specs.Leaves.{Leaf}
 use Rattle.swift_ast.specs.Tests.{on, is, is_simple_atom}
 use Rattle.swift_ast.specs.Expressions.{atom_form}
 use Rattle.swift_ast.proofs.ExpressionExits as exits
-use Rattle.swift_parser.specs.declared.tests_of_tokens.Test.TheVariants as test
-use Rattle.swift_parser.specs.Reading.{TakesIf}
-use Rattle.swift_parser.proofs.Samples.{sample_of, sample_holds}
+use Rattle.token_cursor.specs.declared.tests_of_tokens.Test.TheVariants as test
+use Rattle.token_cursor.specs.Reading.{TakesIf}
+use Rattle.token_cursor.proofs.Samples.{sample_of, sample_holds}
 use Rattle.swift_parser.proofs.expressions.lone_atom.Goals as goal
 
 pub returns-in-None-clause-reads : goal.returns-in-None-clause-reads

@@ -6,7 +6,7 @@ use Rattle.swift_ast.specs.declared.statements.Stmt.TheVariants as stmt
 use Rattle.swift_ast.specs.Tests.{on, is, is_specifier}
 use Rattle.swift_ast.specs.Statements.{specifier_form, stmt_form, if_form}
 use Rattle.swift_ast.proofs.StatementExits as exits
-use Rattle.swift_parser.specs.Reading.{Reads}
+use Rattle.token_cursor.specs.Reading.{Reads}
 use Rattle.swift_parser.proofs.Exits.{passes, eaten, uneaten, took, untaken}
 use Rattle.swift_parser.proofs.statements.Grammar.stmt.Goals as goal
 

@@ -3,7 +3,7 @@ ghost use Rattle.grammar.specs.Forms.{token, begins_by};
 ghost use Rattle.swift_ast.specs.Leaves.{leaf_of};
 ghost use Rattle.swift_ast.specs.Terminals.{terminal};
 ghost use Rattle.swift_ast.specs.Tests.{on};
-ghost use Rattle.swift_parser.specs.Reading.{test_of, Shortens, Eaten, LabelEaten, Reads, begins_assign, goes_on_to_assign, next_of};
+ghost use Rattle.token_cursor.specs.Reading.{test_of, Shortens, Eaten, LabelEaten, Reads, begins_assign, goes_on_to_assign, next_of};
 
 use crate::stop::Stop;
 use crate::tests_of_tokens::Test;

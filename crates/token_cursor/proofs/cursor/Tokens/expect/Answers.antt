@@ -4,9 +4,9 @@ use Rattle.swift_ast.specs.Tests.{on}
 use Rattle.grammar.specs.Forms.{token}
 use Rattle.grammar.specs.Faults.{Refused}
 use Rattle.grammar.proofs.Sequences.{token_refused}
-use Rattle.swift_parser.specs.Reading.{test_of, Eaten}
-use Rattle.swift_parser.proofs.Samples.{sample_of, sample_holds}
-use Rattle.swift_parser.proofs.cursor.Tokens.expect.Goals as goal
+use Rattle.token_cursor.specs.Reading.{test_of, Eaten}
+use Rattle.token_cursor.proofs.Samples.{sample_of, sample_holds}
+use Rattle.token_cursor.proofs.cursor.Tokens.expect.Goals as goal
 
 pub returns-in-None-clause-reads : goal.returns-in-None-clause-reads
 returns-in-None-clause-reads c =

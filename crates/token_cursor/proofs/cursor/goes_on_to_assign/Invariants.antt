@@ -1,7 +1,7 @@
 use Rattle.std.proofs.Common.{◌≡◌, map, length}
 use Rattle.swift_ast.specs.Leaves.{leaf_of}
-use Rattle.swift_parser.specs.Reading.{goes_on_to_assign}
-use Rattle.swift_parser.proofs.cursor.goes_on_to_assign.Given as goal
+use Rattle.token_cursor.specs.Reading.{goes_on_to_assign}
+use Rattle.token_cursor.proofs.cursor.goes_on_to_assign.Given as goal
 
 abbrev pub invariant-loop-rest : goal.invariant-loop-rest
 invariant-loop-rest l = goes_on_to_assign (map leaf_of l.rest) ≡ goes_on_to_assign (map leaf_of l.fn.tokens)

@@ -12,7 +12,7 @@ pub enum Stop {
 
 impl From<AllocError> for Stop {
     ghost use Rattle.std.specs.Prelude.{◌≡◌};
-    ghost use Rattle.swift_parser.specs.declared.stop.Stop.TheVariants.{NoMemory};
+    ghost use Rattle.token_cursor.specs.declared.stop.Stop.TheVariants.{NoMemory};
 
     ghost from_gives = { λ _ e. e ≡ NoMemory };
 
@@ -23,7 +23,7 @@ impl From<AllocError> for Stop {
 
 impl<T: Drop> From<AllocFailed<T>> for Stop {
     ghost use Rattle.std.specs.Prelude.{◌≡◌};
-    ghost use Rattle.swift_parser.specs.declared.stop.Stop.TheVariants.{NoMemory};
+    ghost use Rattle.token_cursor.specs.declared.stop.Stop.TheVariants.{NoMemory};
 
     ghost from_gives = { λ _ e. e ≡ NoMemory };
 

@@ -5,9 +5,9 @@ use Rattle.swift_ast.specs.Leaves.{Leaf}
 use Rattle.swift_ast.specs.Terminals.{number}
 use Rattle.swift_ast.specs.Tests.{on}
 use Rattle.swift_ast.proofs.TestFacts.{sample, sample_on}
-use Rattle.swift_parser.specs.declared.tests_of_tokens.Test.{Test}
-use Rattle.swift_parser.specs.declared.tests_of_tokens.Test.TheVariants as test
-use Rattle.swift_parser.specs.Reading.{test_of}
+use Rattle.token_cursor.specs.declared.tests_of_tokens.Test.{Test}
+use Rattle.token_cursor.specs.declared.tests_of_tokens.Test.TheVariants as test
+use Rattle.token_cursor.specs.Reading.{test_of}
 
 abbrev pub sample_of : Test → Leaf
 sample_of (test.Is k) = sample true k

@@ -1,6 +1,6 @@
 ghost use Rattle.std.specs.Prelude.{◌≡◌};
 ghost use Rattle.swift_ast.specs.Tests.{one_of, infix_operators, stmt_beginnings, decl_beginnings, struct_member_beginnings, extension_member_beginnings};
-ghost use Rattle.swift_parser.specs.Reading.{test_of};
+ghost use Rattle.token_cursor.specs.Reading.{test_of};
 
 use swift_ast::Terminal;
 

@@ -7,10 +7,10 @@ use Rattle.swift_ast.specs.declared.terminals.Terminal.TheVariants as T
 use Rattle.swift_ast.specs.Leaves.{Leaf}
 use Rattle.swift_ast.specs.Terminals.{terminal}
 use Rattle.swift_ast.specs.Tests as tests
-use Rattle.swift_parser.specs.declared.stop.Stop.{Stop}
-use Rattle.swift_parser.specs.declared.stop.Stop.TheVariants as stop
-use Rattle.swift_parser.specs.declared.tests_of_tokens.Test.{Test}
-use Rattle.swift_parser.specs.declared.tests_of_tokens.Test.TheVariants as test
+use Rattle.token_cursor.specs.declared.stop.Stop.{Stop}
+use Rattle.token_cursor.specs.declared.stop.Stop.TheVariants as stop
+use Rattle.token_cursor.specs.declared.tests_of_tokens.Test.{Test}
+use Rattle.token_cursor.specs.declared.tests_of_tokens.Test.TheVariants as test
 
 abbrev pub test_of : Test → tests.Test
 test_of (test.Is terminal) = tests.is terminal
