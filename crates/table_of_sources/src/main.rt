@@ -1,6 +1,7 @@
 //! Prints what `parse_file` and `tokens` answer to a table of texts. With the words
 //! `WORK SHAPE BYTES FILES TIMES` it does the work so many times over files of the shape and the
-//! length, and prints how much it found.
+//! length, and prints how much it found; with the words `answers TEXT..` it prints what `parse_file` answers
+//! to each text.
 #![tactic(auto)]
 
 mod answers;
@@ -13,6 +14,7 @@ use anyhow::{Error, anyhow};
 use cases::{BYTES, GROUPS, LONG_TEXTS, PROJECT, TOKEN_TEXTS};
 use shapes::Shape;
 use std::alloc::{AllocError, Global};
+use std::env;
 use std::env::FillError;
 use std::rt::Env;
 use work::{Task, Work};
@@ -98,18 +100,38 @@ fn asked<R: Env>(rt: &R, alloc: Global) -> Result<Option<Task>, AllocError> {
     }
 }
 
-fn main(rt: HostRuntime) -> Result<(), Error> {
-    if word(&rt, rt.alloc(), 1)?.is_empty() {
-        print_groups(&rt)?;
-        print_limits(&rt)?;
-        return print_rest(&rt);
+// Prints the whole table.
+fn print_table<R: Print + AllocGlobal>(rt: &R) -> Result<(), Error> {
+    print_groups(rt)?;
+    print_limits(rt)?;
+    print_rest(rt)
+}
+
+// Prints the answer to each text behind the first word.
+fn print_answers<R: Env + Print + AllocGlobal>(rt: &R) -> Result<(), Error> {
+    for text in env::args(rt)?.skip(2) {
+        println!(rt; "{}", file_answer(rt.alloc(), text.as_bytes())?)?;
     }
-    match asked(&rt, rt.alloc())? {
+    Ok(())
+}
+
+// Does the work that the words ask for, and prints how much it found.
+fn print_work<R: Env + Print + AllocGlobal>(rt: &R) -> Result<(), Error> {
+    let alloc = rt.alloc();
+    match asked(rt, alloc)? {
         Some(task) => {
-            let found = task.run(rt.alloc())?;
+            let found = task.run(alloc)?;
             println!(rt; "{found}")?;
             Ok(())
         }
-        None => Err(anyhow!("usage: WORK SHAPE BYTES FILES TIMES")),
+        None => Err(anyhow!("usage: answers TEXT.. or WORK SHAPE BYTES FILES TIMES")),
+    }
+}
+
+fn main(rt: HostRuntime) -> Result<(), Error> {
+    match word(&rt, rt.alloc(), 1)?.as_str() {
+        "" => print_table(&rt),
+        "answers" => print_answers(&rt),
+        _ => print_work(&rt),
     }
 }
