@@ -4,6 +4,7 @@
 //! read from them. With arguments it makes a large graph: see `USAGE`.
 #![tactic(auto)]
 
+mod answers;
 mod example;
 mod files;
 mod keys;
@@ -26,7 +27,9 @@ usage: dependency_files                          the example: its bytes, and wha
        dependency_files graph N U I              that graph, as text
        dependency_files write N U I TIMES        writes that file so many times, and prints the bytes written
        dependency_files read N U I TIMES         writes it once, reads it so many times, and prints what was read
-       dependency_files input TIMES              reads the file on standard input so many times";
+       dependency_files input TIMES              reads the file on standard input so many times
+       dependency_files answers DIGITS..         for each file in hexadecimal digits: the items of its bits behind
+                                                 the signature, and on the next line what it holds";
 
 // Prints the file of the example, and the graph that is read from it.
 fn print_example<R: Print + AllocGlobal>(rt: &R) -> Result<(), Error> {
@@ -76,6 +79,25 @@ fn print_input<R: Print + Input + AllocGlobal>(rt: &R, times: usize) -> Result<(
     print_counts(rt, &bytes, times)
 }
 
+// The bytes behind the four of the signature.
+fn behind_signature(bytes: &[u8]) -> &[u8] {
+    match bytes {
+        [_, _, _, _, rest @ ..] => rest,
+        _ => &[],
+    }
+}
+
+// Prints what is read from each file, whose bytes are given as hexadecimal digits.
+fn print_answers<R: Print + AllocGlobal>(rt: &R, files: &[String]) -> Result<(), Error> {
+    let alloc = rt.alloc();
+    for digits in files {
+        let bytes = hex::decode(alloc, digits.as_str())?;
+        println!(rt; "{}", answers::items(alloc, behind_signature(&bytes))?)?;
+        println!(rt; "{}", answers::graphs(alloc, &bytes)?)?;
+    }
+    Ok(())
+}
+
 // The words behind the program's name.
 fn words<R: Env + AllocGlobal>(rt: &R) -> io::Result<Vec<String>> {
     let mut words = Vec::new(rt.alloc());
@@ -85,9 +107,17 @@ fn words<R: Env + AllocGlobal>(rt: &R) -> io::Result<Vec<String>> {
     Ok(words)
 }
 
+fn behind_first(words: &[String]) -> &[String] {
+    match words {
+        [_, rest @ ..] => rest,
+        [] => &[],
+    }
+}
+
 fn main(rt: HostRuntime) -> Result<(), Error> {
     let alloc = rt.alloc();
-    match Task::from_words(&words(&rt)?) {
+    let words = words(&rt)?;
+    match Task::from_words(&words) {
         None => Err(anyhow!("{USAGE}")),
         Some(Task::Example) => print_example(&rt),
         Some(Task::Bytes(shape)) => print_file(&rt, shape),
@@ -101,5 +131,6 @@ fn main(rt: HostRuntime) -> Result<(), Error> {
             print_counts(&rt, &bytes, times)
         }
         Some(Task::Input(times)) => print_input(&rt, times),
+        Some(Task::Answers) => print_answers(&rt, behind_first(&words)),
     }
 }

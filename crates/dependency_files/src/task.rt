@@ -9,6 +9,7 @@ pub enum Task {
     Write(Shape, usize),
     Read(Shape, usize),
     Input(usize),
+    Answers,
 }
 
 impl Task {
@@ -29,6 +30,7 @@ impl Task {
                 Some(Task::Read(shape, times))
             }
             "input" => Some(Task::Input(times(rest)?)),
+            "answers" => Some(Task::Answers),
             _ => None,
         }
     }
