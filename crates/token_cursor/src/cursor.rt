@@ -125,6 +125,7 @@ impl<'a> Tokens<'a> {
     #[inline(always)]
     pub fn eat(&mut self, alloc: Global, test: Test) -> Result<Option<Leaf>, AllocError>
         ensures eaten { IfOk result (λ found. Eaten (on (test_of test)) found self.old self.new) }
+        ensures unread { OnErr result (self.new ≡ self.old) }
         ensures shrinks { length self.new ≤ length self.old }
         ensures shortens { IfOk result (λ found. Shortens found self.old self.new) }
     {
@@ -144,6 +145,7 @@ impl<'a> Tokens<'a> {
         ensures reads { Reads (token (on (test_of test))) result self.old self.new }
         ensures shrinks { length self.new ≤ length self.old }
         ensures shortens { OnOk result (length self.new < length self.old) }
+        ensures unread { OnErr result (self.new ≡ self.old) }
     {
         match self.eat(alloc, test)? {
             Some(leaf) => Ok(leaf),
@@ -176,6 +178,7 @@ impl<'a> Tokens<'a> {
     /// Takes a name and a colon, if both stand next.
     pub fn eat_label(&mut self, alloc: Global) -> Result<Option<(Leaf, Leaf)>, AllocError>
         ensures eaten { IfOk result (λ found. LabelEaten found self.old self.new) }
+        ensures unread { OnErr result (self.new ≡ self.old) }
         ensures shrinks { length self.new ≤ length self.old }
     {
         let [name, colon, rest @ ..] = self.rest else {

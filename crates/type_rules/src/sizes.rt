@@ -1,7 +1,7 @@
 //! The sizes of types.
 
-ghost use Rattle.std.specs.Prelude.{◌≡◌, IfOk};
-ghost use Rattle.type_rules.specs.Words.{nominal_key, field_words, words_of};
+ghost use Rattle.std.specs.Prelude.{◌≡◌, true, IfOk, OnErr};
+ghost use Rattle.type_rules.specs.Words.{nominal_key, field_words, is_struct, words_of};
 
 use crate::{Answers, Meaning, Ty};
 use dep_key::{Aspect, Key, Kind, Name, NoMemory};
@@ -34,9 +34,10 @@ fn field_words(meaning: &Meaning) -> Option<u64>
 /// The words that a value of a type takes, those of a struct from its fields. `None` comes exactly where the
 /// key of the stored properties of the struct does not mean fields.
 ///
-/// An error says that memory was wanted and not there.
+/// An error says that memory was wanted and not there; it comes for structs alone.
 pub fn words<A: Answers>(alloc: Global, ty: &Ty, answers: &A) -> Result<Option<u64>, NoMemory>
-    ensures { IfOk result (λ found. found ≡ words_of (A.meanings answers.now) ty.now) }
+    ensures words { IfOk result (λ found. found ≡ words_of (A.meanings answers.now) ty.now) }
+    ensures memory { OnErr result (is_struct ty.now ≡ true) }
 {
     match ty {
         Ty::Int => Ok(Some(1)),
