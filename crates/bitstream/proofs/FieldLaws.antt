@@ -5,7 +5,7 @@ use Rattle.std.specs.Int.{from_le_bytes, w64}
 use Rattle.std.proofs.lemmas.List.{drop-drop}
 use Rattle.bitstream.specs.declared.item.BitFault.TheVariants.{Short}
 use Rattle.bitstream.specs.Bits.{value, bits_of}
-use Rattle.bitstream.specs.Fields.{place, fixed_at}
+use Rattle.bitstream.specs.Fields.{input_at, fixed_at}
 use Rattle.bitstream.proofs.BitLaws.{value-lt, value-cons, length-bits_of, drop-bytes, field-value}
 
 pub word-step : (bytes : List ℕ) (j sum : ℕ) → j < length bytes → length bytes ≤ 16 → get_or bytes j 0 < 256
@@ -22,13 +22,13 @@ word-step bytes j sum within small byte is =
     ap (λ n. bit_or n (get_or bytes j 0)) shifted ∙ joined ∙ omega (arith, is) ∙ sym whole
 
 pub fixed-short : (bytes : List ℕ) (at w : ℕ) → 8 * length bytes < at + w → at ≤ 8 * length bytes
-    → fixed_at w (place bytes at) ≡ Err (Short at)
+    → fixed_at w (input_at bytes at) ≡ Err (Short at)
 fixed-short bytes at w short start =
     let few : length (drop at (bits_of bytes)) < w = omega (arith, length-drop at (bits_of bytes), length-bits_of bytes) in
     rw (lt-ltb _ _ few) refl
 
 pub fixed-ok : (bytes : List ℕ) (at w v : ℕ) → at + w ≤ 8 * length bytes → v ≡ value (take w (drop at (bits_of bytes)))
-    → fixed_at w (place bytes at) ≡ Ok (v, place bytes (at + w))
+    → fixed_at w (input_at bytes at) ≡ Ok (v, input_at bytes (at + w))
 fixed-ok bytes at w v room is =
     let enough : w ≤ length (drop at (bits_of bytes)) = omega (arith, length-drop at (bits_of bytes), length-bits_of bytes) in
     rw (le-ltb _ _ enough, is) (ap (λ s. Ok (value (take w (drop at (bits_of bytes))), record { at = at + w; bits = s })) (drop-drop w at (bits_of bytes)))
@@ -52,7 +52,7 @@ masked n w h = rw (one_shl w 128 (omega arith)) (and_mask n w)
 pub fixed-code : (bytes rest front : List ℕ) (at w n : ℕ) → w ≤ 64 → at ≤ 8 * length bytes
     → rest ≡ drop (at / 8) bytes → front ≡ take ((at % 8 + w + 7) / 8) rest → (at % 8 + w + 7) / 8 ≤ length rest
     → n ≡ value (bits_of front)
-    → fixed_at w (place bytes at) ≡ Ok (bit_and (n / 2 ^ (at % 8)) (1 * 2 ^ w % 2 ^ 128 - 1), place bytes (at + w))
+    → fixed_at w (input_at bytes at) ≡ Ok (bit_and (n / 2 ^ (at % 8)) (1 * 2 ^ w % 2 ^ 128 - 1), input_at bytes (at + w))
 fixed-code bytes rest front at w n narrow start rest-is front-is room n-is =
     let fits : (at % 8 + w + 7) / 8 ≤ length (drop (at / 8) bytes) = rw (sym rest-is) room in
     let field = field-here bytes at w ((at % 8 + w + 7) / 8) fits (omega arith) in
@@ -82,7 +82,7 @@ low_bits n w h = rw (one_shl w 64 (omega arith)) (and_mask n w)
 -- what the code computes from eight bytes, `over` bits behind
 pub fixed-behind : (bytes rest eight : List ℕ) (at over w v : ℕ) → over + w ≤ 56 → at ≤ 8 * length bytes
     → rest ≡ drop (at / 8) bytes → 8 ≤ length rest → eight ≡ take 8 rest → v ≡ value (bits_of eight) / 2 ^ (at % 8 + over) % 2 ^ w
-    → fixed_at w (place bytes (at + over)) ≡ Ok (v, place bytes (at + (over + w)))
+    → fixed_at w (input_at bytes (at + over)) ≡ Ok (v, input_at bytes (at + (over + w)))
 fixed-behind bytes rest eight at over w v narrow start rest-is room eight-is v-is =
     let fits : 8 ≤ length (drop (at / 8) bytes) = rw (sym rest-is) room in
     let here : at + over ≡ 8 * (at / 8) + (at % 8 + over) = omega arith in
@@ -90,12 +90,12 @@ fixed-behind bytes rest eight at over w v narrow start rest-is room eight-is v-i
     let read : value (bits_of eight) ≡ value (bits_of (take 8 (drop (at / 8) bytes))) = ap (λ s. value (bits_of s)) (eight-is ∙ ap (take 8) rest-is) in
     let behind : at + over + w ≡ at + (over + w) = omega arith in
     fixed-ok bytes (at + over) w v (omega (arith, fits, narrow, length-drop (at / 8) bytes)) (v-is ∙ ap (λ m. m / 2 ^ (at % 8 + over) % 2 ^ w) read ∙ sym field)
-    ∙ ap (λ n. Ok (v, place bytes n)) behind
+    ∙ ap (λ n. Ok (v, input_at bytes n)) behind
 
 -- the same with no bits between
 pub fixed-eight : (bytes rest eight : List ℕ) (at w v : ℕ) → w ≤ 56 → at ≤ 8 * length bytes
     → rest ≡ drop (at / 8) bytes → 8 ≤ length rest → eight ≡ take 8 rest → v ≡ value (bits_of eight) / 2 ^ (at % 8) % 2 ^ w
-    → fixed_at w (place bytes at) ≡ Ok (v, place bytes (at + w))
+    → fixed_at w (input_at bytes at) ≡ Ok (v, input_at bytes (at + w))
 fixed-eight bytes rest eight at w v narrow start rest-is room eight-is v-is =
     let fits : 8 ≤ length (drop (at / 8) bytes) = rw (sym rest-is) room in
     let field = field-here bytes at w 8 fits (omega (arith, narrow)) in

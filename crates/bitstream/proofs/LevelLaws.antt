@@ -2,8 +2,8 @@
 use Rattle.std.proofs.Common.{◌≡◌, ℕ, ◌+◌, ◌*◌, ◌-◌, ◌/◌, ◌%◌, ◌^◌, ◌<◌, ◌≤◌, ◌==◌, Bool, false, List, [], ◌∷◌, ◌++◌, length, refl, sym, ◌∙◌, ap, subst, arith, length-append, append_assoc, if◌then◌else◌, None}
 use Rattle.std.proofs.lemmas.List.{append-nil}
 use Rattle.bitstream.specs.Bits.{bits}
-use Rattle.bitstream.specs.Reading.{Seen, Enters, Leaves}
-use Rattle.bitstream.specs.Stands.{Form, ◌⨾◌, fixed_form, vbr_form, pad_form, Entry, EndBlock, EnterBlock, Block, Blocks, no_blocks, width_in, in_info, shown}
+use Rattle.bitstream.specs.Reading.{Seen, Enters, LeaveBlock}
+use Rattle.bitstream.specs.Stands.{BitPattern, ◌⨾◌, fixed_form, vbr_form, pad_form, Entry, EndBlock, EnterBlock, Block, Blocks, no_blocks, width_in, in_info, shown}
 use Rattle.bitstream.proofs.BitLaws.{length-bits}
 use Rattle.bitstream.proofs.LeadLaws.{Leads, leads-append, leads-one}
 
@@ -25,7 +25,7 @@ pub record IsStateOf (b d : Block) : Type 0 where
   pub begins : d.begins ≡ b.begins
 
 -- where a block began: the front behind its id up to its length field
-abbrev pub header_form : ℕ → Block → Form
+abbrev pub header_form : ℕ → Block → BitPattern
 header_form id_width b = fixed_form id_width 1 ⨾ vbr_form 8 b.number ⨾ vbr_form 4 b.width ⨾ pad_form
 
 -- The innermost open block, of which the state is `now`: what stands before it, its beginning with zeros for its length, and what stands in it.
@@ -128,7 +128,7 @@ holds-enter outer b bs header items h form none begins plain small low high dept
 }
 
 -- a form behind four others
-behind-four : (A B C D E : Form) (at : ℕ) (front last : List Bool) → (A ⨾ B ⨾ C ⨾ D) at front → ((n : ℕ) → E n last) → (A ⨾ B ⨾ C ⨾ D ⨾ E) at (front ++ last)
+behind-four : (A B C D E : BitPattern) (at : ℕ) (front last : List Bool) → (A ⨾ B ⨾ C ⨾ D) at front → ((n : ℕ) → E n last) → (A ⨾ B ⨾ C ⨾ D ⨾ E) at (front ++ last)
 behind-four A B C D E at front last (a, r1, pa, (b, r2, pb, (c, d, pc, pd, e3), e2), e1) pe = (
   a,
   b ++ (c ++ (d ++ last)),
@@ -144,7 +144,7 @@ pub whole-block : (cs outer : List Block) (b now : Block) (at words : ℕ) (head
     → (b.number == 0) ≡ false → b.number < 2 ^ 32 → 2 ≤ b.width → b.width ≤ 32 → words < 2 ^ 32
     → header_form (width_in outer) b at header → Within (length outer) b now b.begins es inner more → IsStateOf b now
     → (fixed_form now.width 0 ⨾ pad_form) (b.begins + length inner) last → (b.begins + length inner + length last - b.begins) / 32 % 2 ^ 32 ≡ words
-    → Leads (opened cs) at (EnterBlock b.number b.width words ∷ (es ++ (EndBlock ∷ []))) (header ++ (bits 32 words ++ (inner ++ last))) ((at, Enters b.number) ∷ (more ++ ((b.begins + length inner, Leaves) ∷ []))) (opened cs)
+    → Leads (opened cs) at (EnterBlock b.number b.width words ∷ (es ++ (EndBlock ∷ []))) (header ++ (bits 32 words ++ (inner ++ last))) ((at, Enters b.number) ∷ (more ++ ((b.begins + length inner, LeaveBlock) ∷ []))) (opened cs)
 whole-block cs outer b now at words header inner last es more wide info count depth none begins plain small low high fits form within state ends words-is =
     let field : length (bits 32 words) ≡ 32 = length-bits 32 words in
     let place : at + length (header ++ bits 32 words) ≡ b.begins = omega (arith, length-append header (bits 32 words), field, begins) in
@@ -154,23 +154,23 @@ whole-block cs outer b now at words header inner last es more wide info count de
     = rw wide (behind-four (fixed_form (width_in outer) 1) (vbr_form 8 b.number) (vbr_form 4 b.width) pad_form (fixed_form 32 words) at header (bits 32 words) form (λ n. (fits, refl))) in
     let end-one : Leads (opened (with_words words now ∷ cs)) (b.begins + length inner) (EndBlock ∷ []) last (shown (opened (with_words words now ∷ cs)) (b.begins + length inner) EndBlock) (opened cs)
     = leads-one (opened (with_words words now ∷ cs)) (opened cs) EndBlock (b.begins + length inner) last ends (with_words words now, cs, refl, rw state.begins words-is) refl in
-    let end-shown : shown (opened (with_words words now ∷ cs)) (b.begins + length inner) EndBlock ≡ (b.begins + length inner, Leaves) ∷ []
-    = ap (λ t. if t then [] else (b.begins + length inner, Leaves) ∷ []) (ap (λ n. n == 0) state.number ∙ plain) in
-    let end : Leads (opened (with_words words now ∷ cs)) (b.begins + length inner) (EndBlock ∷ []) last ((b.begins + length inner, Leaves) ∷ []) (opened cs)
+    let end-shown : shown (opened (with_words words now ∷ cs)) (b.begins + length inner) EndBlock ≡ (b.begins + length inner, LeaveBlock) ∷ []
+    = ap (λ t. if t then [] else (b.begins + length inner, LeaveBlock) ∷ []) (ap (λ n. n == 0) state.number ∙ plain) in
+    let end : Leads (opened (with_words words now ∷ cs)) (b.begins + length inner) (EndBlock ∷ []) last ((b.begins + length inner, LeaveBlock) ∷ []) (opened cs)
     = subst (λ l. Leads (opened (with_words words now ∷ cs)) (b.begins + length inner) (EndBlock ∷ []) last l (opened cs)) end-shown end-one in
-    let inside : Leads (opened (with_words words b ∷ cs)) b.begins (es ++ (EndBlock ∷ [])) (inner ++ last) (more ++ ((b.begins + length inner, Leaves) ∷ [])) (opened cs)
-    = leads-append es (EndBlock ∷ []) (opened (with_words words b ∷ cs)) (opened (with_words words now ∷ cs)) (opened cs) b.begins inner last more ((b.begins + length inner, Leaves) ∷ []) (within cs words count) end in
-    let inside' : Leads (opened (block ∷ cs)) (at + length (header ++ bits 32 words)) (es ++ (EndBlock ∷ [])) (inner ++ last) (more ++ ((b.begins + length inner, Leaves) ∷ [])) (opened cs)
-    = subst (λ x. Leads (opened (x ∷ cs)) (at + length (header ++ bits 32 words)) (es ++ (EndBlock ∷ [])) (inner ++ last) (more ++ ((b.begins + length inner, Leaves) ∷ [])) (opened cs)) (sym same)
-    (subst (λ n. Leads (opened (with_words words b ∷ cs)) n (es ++ (EndBlock ∷ [])) (inner ++ last) (more ++ ((b.begins + length inner, Leaves) ∷ [])) (opened cs)) (sym place) inside) in (
+    let inside : Leads (opened (with_words words b ∷ cs)) b.begins (es ++ (EndBlock ∷ [])) (inner ++ last) (more ++ ((b.begins + length inner, LeaveBlock) ∷ [])) (opened cs)
+    = leads-append es (EndBlock ∷ []) (opened (with_words words b ∷ cs)) (opened (with_words words now ∷ cs)) (opened cs) b.begins inner last more ((b.begins + length inner, LeaveBlock) ∷ []) (within cs words count) end in
+    let inside' : Leads (opened (block ∷ cs)) (at + length (header ++ bits 32 words)) (es ++ (EndBlock ∷ [])) (inner ++ last) (more ++ ((b.begins + length inner, LeaveBlock) ∷ [])) (opened cs)
+    = subst (λ x. Leads (opened (x ∷ cs)) (at + length (header ++ bits 32 words)) (es ++ (EndBlock ∷ [])) (inner ++ last) (more ++ ((b.begins + length inner, LeaveBlock) ∷ [])) (opened cs)) (sym same)
+    (subst (λ n. Leads (opened (with_words words b ∷ cs)) n (es ++ (EndBlock ∷ [])) (inner ++ last) (more ++ ((b.begins + length inner, LeaveBlock) ∷ [])) (opened cs)) (sym place) inside) in (
       header ++ bits 32 words,
       inner ++ last,
-      more ++ ((b.begins + length inner, Leaves) ∷ []),
+      more ++ ((b.begins + length inner, LeaveBlock) ∷ []),
       enter,
       (info, omega (arith, count, depth), small, low, high, room words fits),
       inside',
       sym (append_assoc header (bits 32 words) (inner ++ last)),
-      ap (λ t. (if t then [] else (at, Enters b.number) ∷ []) ++ (more ++ ((b.begins + length inner, Leaves) ∷ []))) (sym plain),
+      ap (λ t. (if t then [] else (at, Enters b.number) ∷ []) ++ (more ++ ((b.begins + length inner, LeaveBlock) ∷ []))) (sym plain),
     )
   where
     room : (n : ℕ) → n < 2 ^ 32 → 32 * n ≤ 2 ^ 40

@@ -6,13 +6,14 @@ pub mod FieldLaws
 pub mod FormLaws
 pub mod GroupLaws
 pub mod ItemLaws
-pub mod KnownLaws
+pub mod BlockInfoLaws
 pub mod LeadLaws
 pub mod LevelLaws
 pub mod ListLaws
 pub mod NumberLaws
 pub mod OnwardLaws
 pub mod SoundLaws
+pub mod SparseLaws
 pub mod SpellingLaws
 pub mod StandLaws
 pub mod StreamLaws

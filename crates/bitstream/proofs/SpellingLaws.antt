@@ -4,8 +4,8 @@ use Rattle.std.proofs.Math.Nat.{mod-eq_of_lt, le-mul_of_pos_right}
 use Rattle.std.proofs.Math.Seq.{drop-append_seam, take-append_seam}
 use Rattle.std.proofs.lemmas.List.{length-take-le, take-append-drop, drop-drop}
 use Rattle.bitstream.specs.Bits.{value, bits}
-use Rattle.bitstream.proofs.GroupLaws.{ok_value}
-use Rattle.bitstream.specs.Fields.{Place, after, groups, group_then, groups_at, number, answer, fixed_at, vbr_at, Reads}
+use Rattle.bitstream.proofs.GroupLaws.{ok_value, answer, vbr-answer}
+use Rattle.bitstream.specs.Fields.{Input, after, groups, group_then, groups_at, number, fixed_at, vbr_at, IsReadBack}
 use Rattle.bitstream.specs.Spelling.{IsVbr, AllBelow, spell}
 use Rattle.bitstream.proofs.BitLaws.{length-bits, value-bits, bits-value, value-lt, two_pow}
 use Rattle.bitstream.specs.Writing.{vbr_bits}
@@ -62,12 +62,11 @@ drop-spelled w ds rest = ap (λ k. drop k (spell w ds ++ rest)) (sym (length-spe
 -- What is spelled is read, whatever follows.
 pub vbr-again : (w n at : ℕ) (front rest : List Bool) → 0 < w → IsVbr w n front
     → vbr_at w (record { at = at; bits = front ++ rest }) ≡ Ok (n, record { at = at + length front; bits = rest })
-unfolding vbr_at
 vbr-again w n at front rest pos is =
     let ds = is.digits in
     let sum : 0 + 2 ^ 0 * number w ds ≡ n = omega (arith, is.is_number) in
     let read : vbr_at w (record { at = at; bits = spell w ds ++ rest }) ≡ Ok (n, record { at = at + length (spell w ds); bits = rest })
-    = rw (spelled-at w at ds rest pos is.some_digit is.below, sum, lt-ltb n (2 ^ 64) is.fits, drop-spelled w ds rest, length-spell w ds) refl in
+    = vbr-answer w (let p : Input = record { at = at; bits = spell w ds ++ rest } in p) ∙ rw (spelled-at w at ds rest pos is.some_digit is.below, sum, lt-ltb n (2 ^ 64) is.fits, drop-spelled w ds rest, length-spell w ds) refl in
     rw is.spelled read
 
 abbrev pub Takes : ℕ → List Bool → List ℕ → Type 0
@@ -124,9 +123,9 @@ groups-takes zero w bs pos = tt
 groups-takes (suc fuel) w bs pos = taken-all fuel w bs (λ room. taken-step w bs (groups fuel w (drop w bs)) pos room (groups-takes fuel w (drop w bs) pos))
 
 -- What is read is spelled so.
-pub vbr-takes : (w : ℕ) (p q : Place) (n : ℕ) → 0 < w → vbr_at w p ≡ Ok (n, q) → (front : List Bool) × IsVbr w n front × (p.bits ≡ front ++ q.bits) × (q.at ≡ p.at + length front)
-unfolding groups_at vbr_at
-vbr-takes w p q n pos is = from (groups (suc (length p.bits)) w p.bits) (groups-takes (suc (length p.bits)) w p.bits pos) is
+pub vbr-takes : (w : ℕ) (p q : Input) (n : ℕ) → 0 < w → vbr_at w p ≡ Ok (n, q) → (front : List Bool) × IsVbr w n front × (p.bits ≡ front ++ q.bits) × (q.at ≡ p.at + length front)
+unfolding groups_at
+vbr-takes w p q n pos is = from (groups (suc (length p.bits)) w p.bits) (groups-takes (suc (length p.bits)) w p.bits pos) (sym (vbr-answer w p) ∙ is)
   where
     from : (gs : List ℕ × Bool) → TakesAll w p.bits gs → answer p.at w 0 0 p gs ≡ Ok (n, q) → (front : List Bool) × IsVbr w n front × (p.bits ≡ front ++ q.bits) × (q.at ≡ p.at + length front)
     from (ds, came) t e = by_size (nat_lt (0 + 2 ^ 0 * number w ds) (2 ^ 64)) refl came t e
@@ -147,10 +146,10 @@ vbr-takes w p q n pos is = from (groups (suc (length p.bits)) w p.bits) (groups-
             )
 
 -- A field that stands is read.
-pub fixed-again : (w n : ℕ) → n < 2 ^ w → Reads (fixed_at w) n (bits w n)
+pub fixed-again : (w n : ℕ) → n < 2 ^ w → IsReadBack (fixed_at w) n (bits w n)
 fixed-again w n fits at rest =
     let room : w ≤ length (bits w n ++ rest) = omega (arith, length-append (bits w n) rest, length-bits w n) in
     rw (le-ltb _ _ room, take-field w n rest, drop-field w n rest, value-bits w n, mod-eq_of_lt fits, length-bits w n) refl
 
-pub vbr-written : (w n : ℕ) → 2 ≤ w → n < 2 ^ 64 → Reads (vbr_at w) n (vbr_bits w n)
+pub vbr-written : (w n : ℕ) → 2 ≤ w → n < 2 ^ 64 → IsReadBack (vbr_at w) n (vbr_bits w n)
 vbr-written w n wide fits at rest = vbr-again w n at (vbr_bits w n) rest (omega (arith, wide)) (vbr_bits-is w n wide fits)

@@ -4,7 +4,7 @@ use Rattle.std.proofs.lemmas.List.{drop-drop, get_or-drop}
 use Rattle.std.proofs.Math.Seq.{drop-append_seam, take-append_seam}
 use Rattle.bitstream.specs.declared.item.BitFault.TheVariants.{Short}
 use Rattle.bitstream.specs.Bits.{bits_of, byte_bits}
-use Rattle.bitstream.specs.Fields.{place}
+use Rattle.bitstream.specs.Fields.{input_at}
 use Rattle.bitstream.specs.Stream.{bytes_at, whole_bytes}
 use Rattle.bitstream.proofs.BitLaws.{byte-value, byte-length, length-bits_of, drop-bytes}
 
@@ -22,7 +22,7 @@ bytes-back (suc n) (b ∷ bytes) within fits =
 
 -- the slice of the code
 pub bytes-read : (bytes rest found : List ℕ) (at n : ℕ) → at % 8 ≡ 0 → at + 8 * n ≤ 8 * length bytes → rest ≡ drop (at / 8) bytes → found ≡ take n rest
-    → ((i : ℕ) → get_or bytes i 0 < 256) → bytes_at n (place bytes at) ≡ Ok (found, place bytes (at + 8 * n))
+    → ((i : ℕ) → get_or bytes i 0 < 256) → bytes_at n (input_at bytes at) ≡ Ok (found, input_at bytes (at + 8 * n))
 unfolding bytes_at
 bytes-read bytes rest found at n whole room rest-is found-is fits =
     let enough : 8 * n ≤ length (drop at (bits_of bytes)) = omega (arith, room, length-drop at (bits_of bytes), length-bits_of bytes) in
@@ -33,6 +33,6 @@ bytes-read bytes rest found at n whole room rest-is found-is fits =
     = ap (whole_bytes n) here ∙ bytes-back n rest within (λ i. rw (rest-is, get_or-drop (at / 8) bytes i 0) (fits (at / 8 + i))) ∙ sym found-is in
     rw (le-ltb _ _ enough, found', drop-drop (8 * n) at (bits_of bytes)) refl
 
-pub bytes-short : (bytes : List ℕ) (at n : ℕ) → 8 * length bytes < at + 8 * n → at ≤ 8 * length bytes → bytes_at n (place bytes at) ≡ Err (Short at)
+pub bytes-short : (bytes : List ℕ) (at n : ℕ) → 8 * length bytes < at + 8 * n → at ≤ 8 * length bytes → bytes_at n (input_at bytes at) ≡ Err (Short at)
 unfolding bytes_at
 bytes-short bytes at n short start = let few : length (drop at (bits_of bytes)) < 8 * n = omega (arith, short, start, length-drop at (bits_of bytes), length-bits_of bytes) in rw (lt-ltb _ _ few) refl

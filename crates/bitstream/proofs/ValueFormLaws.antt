@@ -7,15 +7,15 @@ use Rattle.bitstream.specs.declared.item.BitFault.TheVariants.{BadOperands, BadB
 use Rattle.bitstream.specs.declared.item.AbbrevOp.{AbbrevOp}
 use Rattle.bitstream.specs.declared.item.AbbrevOp.TheVariants.{Literal, Fixed, Vbr, Array, Char6, Blob}
 use Rattle.bitstream.specs.declared.cursor.Opened.{Opened}
-use Rattle.bitstream.specs.Fields.{Place, fixed_at, vbr_at, ◌>>=◌}
+use Rattle.bitstream.specs.Fields.{Input, fixed_at, vbr_at, ◌>>=◌}
 use Rattle.bitstream.specs.Stream.{align_at, blob_at, scalar_at, prefixed, array_at, is_array, is_blob, numbers_alone, blob_alone, behind_numbers, values_at, Values, encoded_at, op_at, is_element_op, may_stand, ops_at, definition_at, opened_at}
 use Rattle.bitstream.specs.Spelling.{IsVbr}
 use Rattle.bitstream.specs.Writer.{is_scalar, is_element, is_rest, is_definition}
-use Rattle.bitstream.specs.Stands.{Form, ◌⨾◌, each, fixed_form, vbr_form, pad_form, number_form, array_form, blob_form, values_form, op_form}
+use Rattle.bitstream.specs.Stands.{BitPattern, ◌⨾◌, each, fixed_form, vbr_form, pad_form, number_form, array_form, blob_form, values_form, op_form}
 use Rattle.bitstream.proofs.OnwardLaws.{and_left, and_right, array_rest, scalar_rest, MayBe}
 use Rattle.bitstream.proofs.FormLaws.{AgainIf, Anywhere, Again, again-then, again-nothing, again-last, again-prefixed, Spelled, spelled-then, spelled-nothing, spelled-either, spelled-weaker, spelled-prefixed, fixed_form-again, fixed-spelled, any_vbr-again, any_vbr-spelled, pad_form-again, pad-spelled, blob_form-again, blob-spelled, moved, number-again, number-spelled, array-again, array-spelled}
 
-again-behind : (r : Place → Result (Values × Place) BitFault) (x : ℕ) (numbers : List ℕ) (blob : Option (List ℕ)) (P : Form)
+again-behind : (r : Input → Result (Values × Input) BitFault) (x : ℕ) (numbers : List ℕ) (blob : Option (List ℕ)) (P : BitPattern)
     → Again r (record { numbers = numbers; blob = blob }) P → Again (λ q. behind_numbers (x ∷ []) (r q)) (record { numbers = x ∷ numbers; blob = blob }) P
 again-behind r x numbers blob P h at front rest p t = ap (behind_numbers (x ∷ [])) (h at front rest p t)
 
@@ -37,25 +37,25 @@ values-again (Vbr w ∷ ops) (n ∷ numbers) blob at front rest is t = value-bef
 values-again (Char6 ∷ ops) (n ∷ numbers) blob at front rest is t = value-before Char6 ops n numbers blob (values-again ops numbers blob) at front rest is t
 values-again _ _ _ at front rest is t = absurd is
 
-abbrev pub ValuesAre : List AbbrevOp → Place → Values → Place → List Bool → Type 0
+abbrev pub ValuesAre : List AbbrevOp → Input → Values → Input → List Bool → Type 0
 ValuesAre ops p v q front = values_form ops v.numbers v.blob p.at front
 
-numbers-alone-spelled : (ops : List AbbrevOp) (p : Place) (r : Result (List ℕ × Place) BitFault) → Spelled (λ xs q front. array_form ops xs p.at front) p r → Spelled (ValuesAre (Array ∷ ops) p) p (numbers_alone r)
+numbers-alone-spelled : (ops : List AbbrevOp) (p : Input) (r : Result (List ℕ × Input) BitFault) → Spelled (λ xs q front. array_form ops xs p.at front) p r → Spelled (ValuesAre (Array ∷ ops) p) p (numbers_alone r)
 numbers-alone-spelled ops p (Ok x) h = h
 numbers-alone-spelled ops p (Err e) h = h
 
-blob-alone-spelled : (ops : List AbbrevOp) (p : Place) (r : Result (List ℕ × Place) BitFault) → Spelled (λ bytes q front. blob_form bytes p.at front) p r → Spelled (ValuesAre (Blob ∷ ops) p) p (blob_alone r)
+blob-alone-spelled : (ops : List AbbrevOp) (p : Input) (r : Result (List ℕ × Input) BitFault) → Spelled (λ bytes q front. blob_form bytes p.at front) p r → Spelled (ValuesAre (Blob ∷ ops) p) p (blob_alone r)
 blob-alone-spelled ops p (Ok x) h = h
 blob-alone-spelled ops p (Err e) h = h
 
-behind-spelled : (P Q : Values → Place → List Bool → Type 0) (p : Place) (n : ℕ) (r : Result (Values × Place) BitFault)
-    → Spelled P p r → ((v : Values) (q : Place) (front : List Bool) → P v q front → Q (record { numbers = n ∷ v.numbers; blob = v.blob }) q front) → Spelled Q p (behind_numbers (n ∷ []) r)
+behind-spelled : (P Q : Values → Input → List Bool → Type 0) (p : Input) (n : ℕ) (r : Result (Values × Input) BitFault)
+    → Spelled P p r → ((v : Values) (q : Input) (front : List Bool) → P v q front → Q (record { numbers = n ∷ v.numbers; blob = v.blob }) q front) → Spelled Q p (behind_numbers (n ∷ []) r)
 behind-spelled P Q p n (Ok r) (front, is, same, at) f = (front, f r.0 r.1 front is, same, at)
 behind-spelled P Q p n (Err e) h f = tt
 
-value-first : (op : AbbrevOp) (ops : List AbbrevOp) (p : Place) → is_array op ≡ false → is_blob op ≡ false
+value-first : (op : AbbrevOp) (ops : List AbbrevOp) (p : Input) → is_array op ≡ false → is_blob op ≡ false
     → ((n : ℕ) (numbers : List ℕ) (blob : Option (List ℕ)) (at : ℕ) (front : List Bool) → (number_form op n ⨾ values_form ops numbers blob) at front → values_form (op ∷ ops) (n ∷ numbers) blob at front)
-    → ((q : Place) → Spelled (ValuesAre ops q) q (values_at ops q))
+    → ((q : Input) → Spelled (ValuesAre ops q) q (values_at ops q))
     → Spelled (ValuesAre (op ∷ ops) p) p (scalar_at op p >>= (λ x. behind_numbers (x.0 ∷ []) (values_at ops x.1)))
 value-first op ops p a b join more =
     spelled-then (λ n q front. number_form op n p.at front) (ValuesAre (op ∷ ops) p) p _ (λ x. behind_numbers (x.0 ∷ []) (values_at ops x.1)) (number-spelled op p a b) (λ x one is at.
@@ -70,16 +70,16 @@ not_array Array h = absurd cc
 not_array Char6 h = (refl, refl)
 not_array Blob h = absurd cc
 
-array-first : (ops : List AbbrevOp) (p : Place) → is_rest (Array ∷ ops) ≡ true → Spelled (λ xs q front. array_form ops xs p.at front) p (array_at ops p)
+array-first : (ops : List AbbrevOp) (p : Input) → is_rest (Array ∷ ops) ≡ true → Spelled (λ xs q front. array_form ops xs p.at front) p (array_at ops p)
 array-first [] p h = absurd cc
 array-first (element ∷ ops) p h =
     let is : is_element element ≡ true = array_rest Array (element ∷ ops) refl h in
     array-spelled element ops p (not_array element is).0 (not_array element is).1
 
-blob-first : (ops : List AbbrevOp) (p : Place) → is_rest (Blob ∷ ops) ≡ true → Spelled (ValuesAre (Blob ∷ ops) p) p (blob_alone (blob_at p))
+blob-first : (ops : List AbbrevOp) (p : Input) → is_rest (Blob ∷ ops) ≡ true → Spelled (ValuesAre (Blob ∷ ops) p) p (blob_alone (blob_at p))
 blob-first ops p h = blob-alone-spelled ops p (blob_at p) (blob-spelled p)
 
-pub values-spelled : (ops : List AbbrevOp) (p : Place) → is_rest ops ≡ true → Spelled (ValuesAre ops p) p (values_at ops p)
+pub values-spelled : (ops : List AbbrevOp) (p : Input) → is_rest ops ≡ true → Spelled (ValuesAre ops p) p (values_at ops p)
 values-spelled [] p h = spelled-nothing (ValuesAre [] p) (record { numbers = []; blob = None }) p refl
 values-spelled (Array ∷ ops) p h = numbers-alone-spelled ops p (array_at ops p) (array-first ops p h)
 values-spelled (Blob ∷ ops) p h = blob-first ops p h
@@ -89,10 +89,10 @@ values-spelled (Vbr w ∷ ops) p h = value-first (Vbr w) ops p refl refl (λ n n
 values-spelled (Char6 ∷ ops) p h = value-first Char6 ops p refl refl (λ n numbers blob at front f. f) (λ q. values-spelled ops q (scalar_rest Char6 ops refl refl h))
 
 -- one operand of a definition
-width-again : (entered at e w : ℕ) (op : AbbrevOp) (P : Form) → Again (encoded_at entered at e) op P → Again (encoded_at entered at e) op P
+width-again : (entered at e w : ℕ) (op : AbbrevOp) (P : BitPattern) → Again (encoded_at entered at e) op P → Again (encoded_at entered at e) op P
 width-again entered at e w op P h = h
 
-encoding-again : (entered e : ℕ) (op : AbbrevOp) (P : Form) → e < 2 ^ 3 → ((at : ℕ) → Again (encoded_at entered at e) op P) → Again (op_at entered) op (fixed_form 1 0 ⨾ fixed_form 3 e ⨾ P)
+encoding-again : (entered e : ℕ) (op : AbbrevOp) (P : BitPattern) → e < 2 ^ 3 → ((at : ℕ) → Again (encoded_at entered at e) op P) → Again (op_at entered) op (fixed_form 1 0 ⨾ fixed_form 3 e ⨾ P)
 unfolding op_at
 encoding-again entered e op P small more =
     again-then Anywhere (fixed_at 1)
@@ -113,7 +113,7 @@ vbr-encoded entered at w one low =
     (λ p q. rw (one, le-ltb 32 w low) refl)
 
 -- an encoding that has no width
-plain-encoded : (entered e : ℕ) (op : AbbrevOp) → e < 2 ^ 3 → ((at : ℕ) (p : Place) → encoded_at entered at e p ≡ Ok (op, p)) → Again (op_at entered) op (fixed_form 1 0 ⨾ fixed_form 3 e)
+plain-encoded : (entered e : ℕ) (op : AbbrevOp) → e < 2 ^ 3 → ((at : ℕ) (p : Input) → encoded_at entered at e p ≡ Ok (op, p)) → Again (op_at entered) op (fixed_form 1 0 ⨾ fixed_form 3 e)
 unfolding op_at
 plain-encoded entered e op small more =
     again-then Anywhere (fixed_at 1)
@@ -121,15 +121,15 @@ plain-encoded entered e op small more =
     0 (λ n. op) (fixed_form 1 0) (fixed_form 3 e) (fixed_form-again 1 0)
     (λ p. again-last (fixed_at 3) (λ q e. encoded_at entered q.at e.0 e.1) e op (fixed_form 3 e) (fixed_form-again 3 e) (λ q r. more q.at r))
 
-array-encoded : (entered at : ℕ) (p : Place) → encoded_at entered at 3 p ≡ Ok (Array, p)
+array-encoded : (entered at : ℕ) (p : Input) → encoded_at entered at 3 p ≡ Ok (Array, p)
 unfolding encoded_at
 array-encoded entered at p = refl
 
-char6-encoded : (entered at : ℕ) (p : Place) → encoded_at entered at 4 p ≡ Ok (Char6, p)
+char6-encoded : (entered at : ℕ) (p : Input) → encoded_at entered at 4 p ≡ Ok (Char6, p)
 unfolding encoded_at
 char6-encoded entered at p = refl
 
-blob-encoded : (entered at : ℕ) (p : Place) → encoded_at entered at 5 p ≡ Ok (Blob, p)
+blob-encoded : (entered at : ℕ) (p : Input) → encoded_at entered at 5 p ≡ Ok (Blob, p)
 unfolding encoded_at
 blob-encoded entered at p = refl
 
@@ -166,10 +166,10 @@ EncodedAs e Array front = (e ≡ 3) × (front ≡ [])
 EncodedAs e Char6 front = (e ≡ 4) × (front ≡ [])
 EncodedAs e Blob front = (e ≡ 5) × (front ≡ [])
 
-pub encoded-spelled : (entered at e : ℕ) (p : Place) → Spelled (λ op q front. EncodedAs e op front) p (encoded_at entered at e p)
+pub encoded-spelled : (entered at e : ℕ) (p : Input) → Spelled (λ op q front. EncodedAs e op front) p (encoded_at entered at e p)
 unfolding encoded_at
 encoded-spelled entered at e p =
-    let Q : AbbrevOp → Place → List Bool → Type 0 = λ op q front. EncodedAs e op front in
+    let Q : AbbrevOp → Input → List Bool → Type 0 = λ op q front. EncodedAs e op front in
     spelled-either Q p (e == 1) _ _ (λ t. spelled-then (λ n q front. vbr_form 5 n p.at front) Q p _ _ (any_vbr-spelled 5 p) (λ w one is at.
     spelled-either (λ op q other. Q op q (one ++ other)) w.1 (nat_lt 64 w.0) _ _ (λ u. tt) (λ u. spelled-nothing (λ op q other. Q op q (one ++ other)) (Fixed w.0) w.1 (rw (append-nil one) (eqb-true e 1 t, is)))))
     (λ t. spelled-either Q p (e == 2) _ _ (λ t. spelled-then (λ n q front. vbr_form 5 n p.at front) Q p _ _ (any_vbr-spelled 5 p) (λ w one is at.
@@ -195,10 +195,10 @@ op-written Array at e one two three a b h = rw (h.1, append-nil two) (one, two, 
 op-written Char6 at e one two three a b h = rw (h.1, append-nil two) (one, two, a, rw h.0 at b, refl)
 op-written Blob at e one two three a b h = rw (h.1, append-nil two) (one, two, a, rw h.0 at b, refl)
 
-pub op-spelled : (entered : ℕ) (p : Place) → Spelled (λ op q front. op_form op p.at front) p (op_at entered p)
+pub op-spelled : (entered : ℕ) (p : Input) → Spelled (λ op q front. op_form op p.at front) p (op_at entered p)
 unfolding op_at
 op-spelled entered p =
-    let R : AbbrevOp → Place → List Bool → Type 0 = λ op q front. op_form op p.at front in
+    let R : AbbrevOp → Input → List Bool → Type 0 = λ op q front. op_form op p.at front in
     spelled-then (λ n q front. fixed_form 1 n p.at front) R p _ _ (fixed-spelled 1 p) (λ flag one is at.
     spelled-either (λ op q other. R op q (one ++ other)) flag.1 (flag.0 == 1) _ _
     (λ t. spelled-then (λ n q front. vbr_form 8 n (flag.1).at front) (λ op q other. R op q (one ++ other)) flag.1 _ _ (any_vbr-spelled 8 flag.1) (λ v two is2 at2.
@@ -265,7 +265,7 @@ first-stands first true op ops (e, is, h) = element-stands first op ops e is h
 first-stands true false op ops h = definition-stands op ops h
 first-stands false false op ops h = rest-stands op ops h
 
-again-if : {A : Type 0} (b : Bool) (r s : Place → Result (A × Place) BitFault) (x : A) (P : Form) → b ≡ true → Again r x P → Again (λ p. if b then r p else s p) x P
+again-if : {A : Type 0} (b : Bool) (r s : Input → Result (A × Input) BitFault) (x : A) (P : BitPattern) → b ≡ true → Again r x P → Again (λ p. if b then r p else s p) x P
 again-if true r s x P t h = h
 again-if false r s x P t h = absurd cc
 
@@ -279,10 +279,10 @@ ops-again entered (op ∷ ops) first in_array h =
     (λ p. again-if (may_stand first in_array (length ops) op) (λ q. prefixed (op ∷ []) (ops_at entered (length ops) false (is_array op) q)) (λ q. Err (BadOperands entered)) (op ∷ ops) (each op_form ops) stands
     (again-prefixed Anywhere (ops_at entered (length ops) false (is_array op)) (op ∷ []) ops (each op_form ops) (ops-again entered ops false (is_array op) (λ pos. more))))
 
-pub ops-spelled : (entered n : ℕ) (first in_array : Bool) (p : Place) → Spelled (λ ops q front. (length ops ≡ n) × each op_form ops p.at front) p (ops_at entered n first in_array p)
+pub ops-spelled : (entered n : ℕ) (first in_array : Bool) (p : Input) → Spelled (λ ops q front. (length ops ≡ n) × each op_form ops p.at front) p (ops_at entered n first in_array p)
 ops-spelled entered zero first in_array p = spelled-nothing (λ ops q front. (length ops ≡ 0) × each op_form ops p.at front) [] p (refl, refl)
 ops-spelled entered (suc n) first in_array p =
-    let R : List AbbrevOp → Place → List Bool → Type 0 = λ ops q front. (length ops ≡ suc n) × each op_form ops p.at front in
+    let R : List AbbrevOp → Input → List Bool → Type 0 = λ ops q front. (length ops ≡ suc n) × each op_form ops p.at front in
     spelled-then (λ op q front. op_form op p.at front) R p _ _ (op-spelled entered p) (λ op one is at.
     spelled-either (λ ops q other. R ops q (one ++ other)) op.1 (may_stand first in_array n op.0) _ _
     (λ t. spelled-prefixed (λ ops q front. (length ops ≡ n) × each op_form ops (op.1).at front) (λ ops q other. R ops q (one ++ other)) op.1 (op.0 ∷ []) _ (ops-spelled entered n false (is_array op.0) op.1)
@@ -290,14 +290,14 @@ ops-spelled entered (suc n) first in_array p =
     (λ t. tt))
 
 -- a definition behind its id
-abbrev pub definition_form : List AbbrevOp → Form
+abbrev pub definition_form : List AbbrevOp → BitPattern
 definition_form ops = vbr_form 5 (length ops) ⨾ each op_form ops
 
 some_ops : (ops : List AbbrevOp) → is_definition ops ≡ true → (length ops == 0) ≡ false
 some_ops [] h = absurd cc
 some_ops (op ∷ ops) h = ne_eqb (suc (length ops)) 0 (λ e. absurd (omega (arith, e)))
 
-again-unless : {A : Type 0} (b : Bool) (r s : Place → Result (A × Place) BitFault) (x : A) (P : Form) → b ≡ false → Again s x P → Again (λ p. if b then r p else s p) x P
+again-unless : {A : Type 0} (b : Bool) (r s : Input → Result (A × Input) BitFault) (x : A) (P : BitPattern) → b ≡ false → Again s x P → Again (λ p. if b then r p else s p) x P
 again-unless true r s x P t h = absurd cc
 again-unless false r s x P t h = h
 
@@ -308,17 +308,17 @@ definition-again entered ops is =
     (any_vbr-again 5 (length ops))
     (λ p. again-unless (length ops == 0) (λ q. Err (BadOperands entered)) (λ q. ops_at entered (length ops) true false q) ops (each op_form ops) (some_ops ops is) (ops-again entered ops true false (λ pos. is)))
 
-pub definition-spelled : (entered : ℕ) (p : Place) → Spelled (λ ops q front. definition_form ops p.at front) p (definition_at entered p)
+pub definition-spelled : (entered : ℕ) (p : Input) → Spelled (λ ops q front. definition_form ops p.at front) p (definition_at entered p)
 unfolding definition_at
 definition-spelled entered p =
-    let R : List AbbrevOp → Place → List Bool → Type 0 = λ ops q front. definition_form ops p.at front in
+    let R : List AbbrevOp → Input → List Bool → Type 0 = λ ops q front. definition_form ops p.at front in
     spelled-then (λ n q front. vbr_form 5 n p.at front) R p _ _ (any_vbr-spelled 5 p) (λ count one is at.
     spelled-either (λ ops q other. R ops q (one ++ other)) count.1 (count.0 == 0) _ _ (λ t. tt)
     (λ t. spelled-weaker (λ ops q front. (length ops ≡ count.0) × each op_form ops (count.1).at front) (λ ops q other. R ops q (one ++ other)) count.1 _ (ops-spelled entered count.0 true false count.1)
     (λ ops q other at2 h. (one, other, rw h.0 is, moved (each op_form ops) _ _ other at h.1, refl))))
 
 -- where a block begins, behind its id
-abbrev pub opened_form : ℕ → ℕ → ℕ → Form
+abbrev pub opened_form : ℕ → ℕ → ℕ → BitPattern
 opened_form number width words = vbr_form 8 number ⨾ vbr_form 4 width ⨾ pad_form ⨾ fixed_form 32 words
 
 abbrev pub opened_is : ℕ → ℕ → ℕ → ℕ → Opened
@@ -327,15 +327,15 @@ opened_is number width words begins = record { block = number; width = width; be
 abbrev pub HasWords : ℕ → ℕ → List Bool → Type 0
 HasWords words at rest = 32 * words ≤ length rest
 
-pub again-if-behind : {A : Type 0} (C : ℕ → List Bool → Type 0) (b : Bool) (r s : Place → Result (A × Place) BitFault) (x : ℕ → A) (P : Form) → b ≡ true → AgainIf C r x P → AgainIf C (λ p. if b then r p else s p) x P
+pub again-if-behind : {A : Type 0} (C : ℕ → List Bool → Type 0) (b : Bool) (r s : Input → Result (A × Input) BitFault) (x : ℕ → A) (P : BitPattern) → b ≡ true → AgainIf C r x P → AgainIf C (λ p. if b then r p else s p) x P
 again-if-behind C true r s x P t h = h
 again-if-behind C false r s x P t h = absurd cc
 
-pub again-unless-behind : {A : Type 0} (C : ℕ → List Bool → Type 0) (b : Bool) (r s : Place → Result (A × Place) BitFault) (x : ℕ → A) (P : Form) → b ≡ false → AgainIf C s x P → AgainIf C (λ p. if b then r p else s p) x P
+pub again-unless-behind : {A : Type 0} (C : ℕ → List Bool → Type 0) (b : Bool) (r s : Input → Result (A × Input) BitFault) (x : ℕ → A) (P : BitPattern) → b ≡ false → AgainIf C s x P → AgainIf C (λ p. if b then r p else s p) x P
 again-unless-behind C true r s x P t h = absurd cc
 again-unless-behind C false r s x P t h = h
 
-abbrev pub words_read : ℕ → ℕ → ℕ → ℕ × Place → Result (Opened × Place) BitFault
+abbrev pub words_read : ℕ → ℕ → ℕ → ℕ × Input → Result (Opened × Input) BitFault
 words_read entered number width said = if nat_lt (length (said.1).bits) (32 * said.0) then Err (BadBlockLength entered said.0)
     else Ok (record { block = number; width = width; begins = (said.1).at; said = said.0 }, said.1)
 
@@ -343,10 +343,10 @@ words-again : (entered number width words : ℕ) → AgainIf (HasWords words) (�
 words-again entered number width words at front rest is room =
     ap (λ s. s >>= words_read entered number width) (fixed_form-again 32 words at front rest is tt) ∙ rw (le-ltb (length rest) (32 * words) room) refl
 
-abbrev pub width_read : ℕ → ℕ → ℕ × Place → Result (Opened × Place) BitFault
+abbrev pub width_read : ℕ → ℕ → ℕ × Input → Result (Opened × Input) BitFault
 width_read entered number width = if nat_lt width.0 2 then Err (BadOperands entered) else if nat_lt 32 width.0 then Err (BadOperands entered) else (align_at width.1 >>= (λ q. fixed_at 32 q.1 >>= words_read entered number width.0))
 
-abbrev pub number_read : ℕ → ℕ × Place → Result (Opened × Place) BitFault
+abbrev pub number_read : ℕ → ℕ × Input → Result (Opened × Input) BitFault
 number_read entered block = if nat_lt block.0 (2 ^ 32) then (vbr_at 4 block.1 >>= width_read entered block.0) else Err (BadOperands entered)
 
 pub opened-again : (entered number width words : ℕ) → number < 2 ^ 32 → 2 ≤ width → width ≤ 32 → AgainIf (HasWords words) (opened_at entered) (opened_is number width words) (opened_form number width words)
@@ -360,21 +360,21 @@ opened-again entered number width words small low high =
     (again-then (HasWords words) align_at (λ p q. fixed_at 32 q.1 >>= words_read entered number width) tt (opened_is number width words) pad_form (fixed_form 32 words) pad_form-again
     (λ p. words-again entered number width words))))))
 
-abbrev pub OpenedIs : Place → Opened → Place → List Bool → Type 0
+abbrev pub OpenedIs : Input → Opened → Input → List Bool → Type 0
 OpenedIs p o q front = opened_form o.block o.width o.said p.at front × (o.block < 2 ^ 32) × (2 ≤ o.width) × (o.width ≤ 32) × (32 * o.said ≤ length q.bits) × (o.begins ≡ q.at)
 
-pub opened-spelled : (entered : ℕ) (p : Place) → Spelled (OpenedIs p) p (opened_at entered p)
+pub opened-spelled : (entered : ℕ) (p : Input) → Spelled (OpenedIs p) p (opened_at entered p)
 unfolding opened_at
 opened-spelled entered p =
     spelled-then (λ n q front. vbr_form 8 n p.at front) (OpenedIs p) p _ (number_read entered) (any_vbr-spelled 8 p) (λ number one is at.
-    let behind_number : Opened → Place → List Bool → Type 0 = λ o q other. OpenedIs p o q (one ++ other) in
+    let behind_number : Opened → Input → List Bool → Type 0 = λ o q other. OpenedIs p o q (one ++ other) in
     spelled-either behind_number number.1 (nat_lt number.0 (2 ^ 32)) _ _ (λ small. spelled-then (λ n q front. vbr_form 4 n (number.1).at front) behind_number number.1 _ (width_read entered number.0) (any_vbr-spelled 4 number.1) (λ width two is2 at2.
-    let behind_width : Opened → Place → List Bool → Type 0 = λ o q other. behind_number o q (two ++ other) in
+    let behind_width : Opened → Input → List Bool → Type 0 = λ o q other. behind_number o q (two ++ other) in
     spelled-either behind_width width.1 (nat_lt width.0 2) _ _ (λ t. tt) (λ low. spelled-either behind_width width.1 (nat_lt 32 width.0) _ _ (λ t. tt) (λ high.
     spelled-then (λ x q front. pad_form (width.1).at front) behind_width width.1 _ (λ q. fixed_at 32 q.1 >>= words_read entered number.0 width.0) (pad-spelled width.1) (λ q three is3 at3.
-    let behind_pad : Opened → Place → List Bool → Type 0 = λ o q other. behind_width o q (three ++ other) in
+    let behind_pad : Opened → Input → List Bool → Type 0 = λ o q other. behind_width o q (three ++ other) in
     spelled-then (λ n r front. fixed_form 32 n (q.1).at front) behind_pad q.1 _ (words_read entered number.0 width.0) (fixed-spelled 32 q.1) (λ said four is4 at4.
-    let behind_words : Opened → Place → List Bool → Type 0 = λ o q other. behind_pad o q (four ++ other) in
+    let behind_words : Opened → Input → List Bool → Type 0 = λ o q other. behind_pad o q (four ++ other) in
     spelled-either behind_words said.1 (nat_lt (length (said.1).bits) (32 * said.0)) _ _ (λ t. tt) (λ room.
     spelled-nothing behind_words (record { block = number.0; width = width.0; begins = (said.1).at; said = said.0 }) said.1 (rw (append-nil four) (
       (one, two ++ (three ++ four), is, (two, three ++ four, is2, (three, four, moved pad_form (width.1).at (p.at + length one + length two) three (omega (arith, at, at2)) is3, is4, refl), refl), refl),

@@ -8,10 +8,10 @@ use Rattle.bitstream.specs.declared.item.AbbrevOp.TheVariants.{Literal, Fixed, V
 use Rattle.bitstream.specs.declared.writer.OpenBlock.{OpenBlock}
 use Rattle.bitstream.specs.Bits.{bits, bits_of}
 use Rattle.bitstream.specs.Spelling.{AllBelow}
-use Rattle.bitstream.specs.Reading.{Seen, Enters, Leaves as LeavesBlock, Record}
+use Rattle.bitstream.specs.Reading.{Seen, Enters, LeaveBlock, Record}
 use Rattle.bitstream.specs.Writing.{vbr_bits, op_bits, pad_of, aligned, with_field}
 use Rattle.bitstream.specs.Entries.{end_bits, enter_bits, definition_bits, record_bits, blob_bits}
-use Rattle.bitstream.specs.Writer.{Writing, nothing_written, entered, Leaves, defined, recorded, with_blob, is_definition}
+use Rattle.bitstream.specs.Writer.{Writing, nothing_written, entered, EndsBlock, defined, recorded, with_blob, is_definition}
 use Rattle.bitstream.specs.Written.{Call, Entering, Leaving, Defining, Recording, RecordingBlob, OperandFits, OperandsFit, IsBlobCode, Does, shown_by, Wrote, HasWritten}
 use Rattle.bitstream.specs.Stands.{◌⨾◌, each, fixed_form, vbr_form, pad_form, values_form, op_form, Entry, EndBlock, EnterBlock, Define, PlainRecord, AbbrevRecord, Block, no_blocks, width_in, entry_form, Allowed, after_entry, shown, StandFor}
 use Rattle.bitstream.proofs.BitLaws.{length-bits}
@@ -134,7 +134,7 @@ block-follows : (outer : List Block) (b now : Block) (before : List Bool) (first
     → (b.number == 0) ≡ false → b.number < 2 ^ 32 → 2 ≤ b.width → b.width ≤ 32 → words < 2 ^ 32
     → header_form (width_in outer) b (length before) header → Within (length outer) b now b.begins es inner more → IsStateOf b now
     → (fixed_form now.width 0 ⨾ pad_form) (b.begins + length inner) last → (b.begins + length inner + length last - b.begins) / 32 % 2 ^ 32 ≡ words
-    → Follows outer outer (length before) (header ++ (bits 32 words ++ (inner ++ last))) ((length before, Enters b.number) ∷ (more ++ ((b.begins + length inner, LeavesBlock) ∷ [])))
+    → Follows outer outer (length before) (header ++ (bits 32 words ++ (inner ++ last))) ((length before, Enters b.number) ∷ (more ++ ((b.begins + length inner, LeaveBlock) ∷ [])))
 block-follows [] b now before first words header inner last es more h depth none begins plain small low high fits form within state ends words-is = (
   EnterBlock b.number b.width words ∷ (es ++ (EndBlock ∷ [])),
   whole-block [] [] b now (length before) words header inner last es more refl refl refl depth none begins plain small low high fits form within state ends words-is,
@@ -151,7 +151,7 @@ block-follows (o ∷ os) b now before first words header inner last es more h de
 
 -- the length that an end writes, and what then stands where the block does
 end-is : (outer : List Block) (now : Block) (w at : ℕ) (bs : List Bool) (items : List (ℕ × Seen)) → w ≡ now.width → at + 32 ≡ now.begins → IsInnermost outer now (Holds outer) bs items
-    → Holds outer (end_bits w at bs) (items ++ ((length bs, LeavesBlock) ∷ []))
+    → Holds outer (end_bits w at bs) (items ++ ((length bs, LeaveBlock) ∷ []))
 unfolding end_bits
 end-is outer now w at bs items w-is at-is h =
     let b = h.block in
@@ -173,15 +173,15 @@ end-is outer now w at bs items w-is at-is h =
     let form' : (fixed_form now.width 0 ⨾ pad_form) (b.begins + length h.inner) last
     = subst (λ k. (fixed_form now.width 0 ⨾ pad_form) k last) size (subst (λ k. (fixed_form k 0 ⨾ pad_form) (length bs) last) w-is form) in
     let follows = block-follows outer b now h.before h.first n h.header h.inner last h.entries h.more h.holds h.depth h.none_defined h.begins h.plain h.small h.low h.high fits h.form h.within h.state form' words in
-    let holds = holds-more outer outer h.before (h.header ++ (bits 32 n ++ (h.inner ++ last))) h.first ((length h.before, Enters b.number) ∷ (h.more ++ ((b.begins + length h.inner, LeavesBlock) ∷ []))) h.holds follows in
+    let holds = holds-more outer outer h.before (h.header ++ (bits 32 n ++ (h.inner ++ last))) h.first ((length h.before, Enters b.number) ∷ (h.more ++ ((b.begins + length h.inner, LeaveBlock) ∷ []))) h.holds follows in
     let bits-are : with_field at n (aligned (bs ++ bits w 0)) ≡ h.before ++ (h.header ++ (bits 32 n ++ (h.inner ++ last)))
     = ap (with_field at n) all ∙ field-in front (h.inner ++ last) n at place ∙ append_assoc h.before h.header (bits 32 n ++ (h.inner ++ last)) in
-    let items-are : items ++ ((length bs, LeavesBlock) ∷ []) ≡ h.first ++ ((length h.before, Enters b.number) ∷ (h.more ++ ((b.begins + length h.inner, LeavesBlock) ∷ [])))
-    = ap (λ k. items ++ ((k, LeavesBlock) ∷ [])) size ∙ ap (λ l. l ++ ((b.begins + length h.inner, LeavesBlock) ∷ [])) h.items_are
-    ∙ append_assoc h.first ((length h.before, Enters b.number) ∷ h.more) ((b.begins + length h.inner, LeavesBlock) ∷ []) in
-    subst (λ s. Holds outer s (items ++ ((length bs, LeavesBlock) ∷ []))) (sym bits-are) (subst (Holds outer (h.before ++ (h.header ++ (bits 32 n ++ (h.inner ++ last))))) (sym items-are) holds)
+    let items-are : items ++ ((length bs, LeaveBlock) ∷ []) ≡ h.first ++ ((length h.before, Enters b.number) ∷ (h.more ++ ((b.begins + length h.inner, LeaveBlock) ∷ [])))
+    = ap (λ k. items ++ ((k, LeaveBlock) ∷ [])) size ∙ ap (λ l. l ++ ((b.begins + length h.inner, LeaveBlock) ∷ [])) h.items_are
+    ∙ append_assoc h.first ((length h.before, Enters b.number) ∷ h.more) ((b.begins + length h.inner, LeaveBlock) ∷ []) in
+    subst (λ s. Holds outer s (items ++ ((length bs, LeaveBlock) ∷ []))) (sym bits-are) (subst (Holds outer (h.before ++ (h.header ++ (bits 32 n ++ (h.inner ++ last))))) (sym items-are) holds)
 
-leaving-by : (items : List (ℕ × Seen)) (old new : Writing) (bs : List Block) → Holds bs old.bits items → Matches old.width old.first old.abbrevs old.blocks bs → Leaves old new
+leaving-by : (items : List (ℕ × Seen)) (old new : Writing) (bs : List Block) → Holds bs old.bits items → Matches old.width old.first old.abbrevs old.blocks bs → EndsBlock old new
     → IsWritten (items ++ shown_by Leaving (length old.bits)) new
 leaving-by items old new [] h (w, a, o) l = absurd (let e = ap length (sym o ∙ l.innermost) in omega (arith, e, length-append l.outer (l.block ∷ [])))
 leaving-by items old new (now ∷ others) h (before, block, outer, w, a, f, o, at, m) l =
@@ -195,7 +195,7 @@ leaving-by items old new (now ∷ others) h (before, block, outer, w, a, f, o, a
     let P : Writing → Type 0 = IsWritten (items ++ shown_by Leaving (length old.bits)) in
     subst P (sym l.left) (record { blocks = others; holds = holds; matches = m'' })
 
-pub leaving-is : (items : List (ℕ × Seen)) (old new : Writing) → Leaves old new → IsWritten items old → IsWritten (items ++ shown_by Leaving (length old.bits)) new
+pub leaving-is : (items : List (ℕ × Seen)) (old new : Writing) → EndsBlock old new → IsWritten items old → IsWritten (items ++ shown_by Leaving (length old.bits)) new
 leaving-is items old new l h = leaving-by items old new h.blocks h.holds h.matches l
 
 -- one entry in a block
@@ -406,7 +406,7 @@ pub entering-wrote : (items : List (ℕ × Seen)) (old new : Writing) (number wi
     → HasWritten items old → HasWritten (items ++ shown_by (Entering number width) (length old.bits)) new
 entering-wrote items old new number width depth some small low high is (calls, wrote) = (Entering number width ∷ calls, (old, items, wrote, (depth, some, small, low, high, is), refl))
 
-pub leaving-wrote : (items : List (ℕ × Seen)) (old new : Writing) → Leaves old new → HasWritten items old → HasWritten (items ++ shown_by Leaving (length old.bits)) new
+pub leaving-wrote : (items : List (ℕ × Seen)) (old new : Writing) → EndsBlock old new → HasWritten items old → HasWritten (items ++ shown_by Leaving (length old.bits)) new
 leaving-wrote items old new is (calls, wrote) = (Leaving ∷ calls, (old, items, wrote, is, refl))
 
 pub defining-wrote : (items : List (ℕ × Seen)) (old new : Writing) (ops : List AbbrevOp) → 0 < length old.blocks → is_definition ops ≡ true → OperandsFit ops → length ops < 2 ^ 64 → new ≡ defined ops old

@@ -4,12 +4,13 @@ pub mod Cursor
 pub mod Entries
 pub mod Fields
 pub mod Items
-pub mod Known
+pub mod BlockInfo
 pub mod Operands
 pub mod Reader
 pub mod Reading
 pub mod Scopes
 pub mod Spelling
+pub mod Sparse
 pub mod Stands
 pub mod Stream
 pub mod Writer

@@ -1,5 +1,6 @@
 -- What a writer has written, and what each call adds.
 use Rattle.std.specs.Prelude.{◌≡◌, ℕ, ◌+◌, ◌-◌, ◌*◌, ◌/◌, ◌≤◌, Bool, true, false, List, [], ◌∷◌, ◌++◌, length, drop, take, nat_le, Some, slice_get, ◌&&◌, ◌||◌, ◌==◌}
+use Rattle.bitstream.specs.declared.codes.TheConstants.{FIRST_APPLICATION_ABBREV, OUTER_ID_WIDTH, BLOCK_SIZE_WIDTH, MOST_FIXED_WIDTH, MOST_VBR_WIDTH}
 use Rattle.bitstream.specs.declared.item.AbbrevOp.{AbbrevOp}
 use Rattle.bitstream.specs.declared.item.AbbrevOp.TheVariants.{Literal, Fixed, Vbr, Array, Char6, Blob}
 use Rattle.bitstream.specs.declared.writer.BitWriter.{BitWriter}
@@ -20,7 +21,7 @@ abbrev pub writing : BitWriter → Writing
 writing w = record { bits = bits_in w.buffer; width = w.width; abbrevs = w.abbrevs.items; first = w.first; blocks = w.blocks.items }
 
 abbrev pub nothing_written : Writing
-nothing_written = record { bits = []; width = 2; abbrevs = []; first = 0; blocks = [] }
+nothing_written = record { bits = []; width = OUTER_ID_WIDTH; abbrevs = []; first = 0; blocks = [] }
 
 abbrev pub with_bits : List Bool → Writing → Writing
 with_bits bs s = record s { bits = s.bits ++ bs }
@@ -34,11 +35,11 @@ entered block width s =
       width = width;
       abbrevs = s.abbrevs;
       first = length s.abbrevs;
-      blocks = s.blocks ++ record { outer_width = s.width; outer_first = s.first; length_at = (length bs - 32) / 8 } ∷ [];
+      blocks = s.blocks ++ record { outer_width = s.width; outer_first = s.first; length_at = (length bs - BLOCK_SIZE_WIDTH) / 8 } ∷ [];
     }
 
 -- The innermost block ends.
-pub record Leaves (old new : Writing) : Type 0 where
+pub record EndsBlock (old new : Writing) : Type 0 where
   pub block : OpenBlock
   pub outer : List OpenBlock
   pub innermost : old.blocks ≡ outer ++ block ∷ []
@@ -52,7 +53,7 @@ pub record Leaves (old new : Writing) : Type 0 where
 
 -- the id that the next definition of the open block gets
 abbrev pub next_id : Writing → ℕ
-next_id s = 4 + (length s.abbrevs - s.first)
+next_id s = FIRST_APPLICATION_ABBREV + (length s.abbrevs - s.first)
 
 abbrev pub defined : List AbbrevOp → Writing → Writing
 defined ops s = record s { bits = definition_bits s.width ops s.bits; abbrevs = s.abbrevs ++ ops ∷ [] }
@@ -65,21 +66,21 @@ with_blob id blob s = record s { bits = blob_bits s.width id blob s.bits }
 
 -- the id is that of an abbreviation of the open block that has a literal and a blob
 abbrev pub IsBlobId : ℕ → Writing → Type 0
-IsBlobId id s = (code : ℕ) × (4 ≤ id) × (slice_get (drop s.first s.abbrevs) (id - 4) ≡ Some (Literal code ∷ Blob ∷ []))
+IsBlobId id s = (code : ℕ) × (FIRST_APPLICATION_ABBREV ≤ id) × (slice_get (drop s.first s.abbrevs) (id - FIRST_APPLICATION_ABBREV) ≡ Some (Literal code ∷ Blob ∷ []))
 
 -- an operand that may stand alone, and one that the elements of an array may have
 abbrev pub is_scalar : AbbrevOp → Bool
 is_scalar (Literal n) = true
-is_scalar (Fixed w) = nat_le w 64
-is_scalar (Vbr w) = w == 0 || nat_le 2 w && nat_le w 32
+is_scalar (Fixed w) = nat_le w MOST_FIXED_WIDTH
+is_scalar (Vbr w) = w == 0 || nat_le 2 w && nat_le w MOST_VBR_WIDTH
 is_scalar Array = false
 is_scalar Char6 = true
 is_scalar Blob = false
 
 abbrev pub is_element : AbbrevOp → Bool
 is_element (Literal n) = false
-is_element (Fixed w) = nat_le 1 w && nat_le w 64
-is_element (Vbr w) = nat_le 2 w && nat_le w 32
+is_element (Fixed w) = nat_le 1 w && nat_le w MOST_FIXED_WIDTH
+is_element (Vbr w) = nat_le 2 w && nat_le w MOST_VBR_WIDTH
 is_element Array = false
 is_element Char6 = true
 is_element Blob = false

@@ -3,9 +3,14 @@
 ghost use Rattle.std.specs.Prelude.{◌≡◌, ◌≤◌, ◌*◌, ◌+◌, ◌%◌, ◌^◌, ◌<◌, ◌++◌, [], length, take, drop, OnOk, OnErr};
 ghost use Rattle.std.specs.List.{flat_map};
 ghost use Rattle.std.specs.Int.{w32, to_le_bytes};
+ghost use Rattle.bitstream.specs.declared.codes.TheConstants.{ENCODING_WIDTH};
 ghost use Rattle.bitstream.specs.Bits.{bits, bits_of};
 ghost use Rattle.bitstream.specs.Writing.{written_of, op_bits, aligned, with_field, Grows};
 
+use crate::codes::{
+    ABBREV_WIDTH, ENCODING_ARRAY, ENCODING_BLOB, ENCODING_CHAR6, ENCODING_FIXED, ENCODING_VBR,
+    ENCODING_WIDTH, LITERAL_WIDTH, WORD_BITS,
+};
 use crate::{AbbrevOp, NoMemory, Text};
 use std::alloc::Global;
 
@@ -142,10 +147,10 @@ impl BitBuffer {
 
     fn push_encoding(&mut self, encoding: u64) -> Result<(), NoMemory>
         requires { encoding < 8 }
-        ensures ok { OnOk result (bits_in self.new ≡ bits_in self.old ++ (bits 1 0 ++ bits 3 encoding)) }
+        ensures ok { OnOk result (bits_in self.new ≡ bits_in self.old ++ (bits 1 0 ++ bits ENCODING_WIDTH encoding)) }
         ensures kept { Grows self.old.bytes.items self.new.bytes.items }
     {
-        self.push_bits(2 * encoding, 4)
+        self.push_bits(2 * encoding, 1 + ENCODING_WIDTH)
     }
 
     /// The bits of one operand of a definition.
@@ -159,23 +164,23 @@ impl BitBuffer {
                 if let Err(error) = self.push_bits(1, 1) {
                     return Err(error);
                 }
-                self.push_vbr(value, 8)
+                self.push_vbr(value, LITERAL_WIDTH)
             }
             AbbrevOp::Fixed(width) => {
-                if let Err(error) = self.push_encoding(1) {
+                if let Err(error) = self.push_encoding(ENCODING_FIXED) {
                     return Err(error);
                 }
-                self.push_vbr(width as u64, 5)
+                self.push_vbr(width as u64, ABBREV_WIDTH)
             }
             AbbrevOp::Vbr(width) => {
-                if let Err(error) = self.push_encoding(2) {
+                if let Err(error) = self.push_encoding(ENCODING_VBR) {
                     return Err(error);
                 }
-                self.push_vbr(width as u64, 5)
+                self.push_vbr(width as u64, ABBREV_WIDTH)
             }
-            AbbrevOp::Array => self.push_encoding(3),
-            AbbrevOp::Char6 => self.push_encoding(4),
-            AbbrevOp::Blob => self.push_encoding(5),
+            AbbrevOp::Array => self.push_encoding(ENCODING_ARRAY),
+            AbbrevOp::Char6 => self.push_encoding(ENCODING_CHAR6),
+            AbbrevOp::Blob => self.push_encoding(ENCODING_BLOB),
         }
     }
 
@@ -198,7 +203,7 @@ impl BitBuffer {
         ensures whole { OnOk result (bits_in self.new ≡ bits_of self.new.bytes.items) }
         ensures kept { Grows self.old.bytes.items self.new.bytes.items }
     {
-        self.push_bits(0, (32 - self.count) % 32)
+        self.push_bits(0, (WORD_BITS - self.count) % WORD_BITS)
     }
 
     /// Writes a number over the four bytes from `at` on.

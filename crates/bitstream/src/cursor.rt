@@ -4,6 +4,10 @@ ghost use Rattle.std.specs.Prelude.{◌≡◌, ◌≤◌, ◌*◌, ◌+◌, ◌-
 ghost use Rattle.bitstream.specs.Fields.{fixed_at, vbr_at, Gives, bytes_seen};
 ghost use Rattle.bitstream.specs.Stream.{HasHead, align_at, bytes_at, blob_at, char6, has_width, scalar_at, opened_at};
 
+use crate::codes::{
+    BLOCK_ID_WIDTH, BLOCK_SIZE_WIDTH, CHAR6_CHARACTERS, CHAR6_WIDTH, CODE_LEN_WIDTH,
+    LEAST_ID_WIDTH, MOST_ID_WIDTH, RECORD_WIDTH, WORD_BITS,
+};
 use crate::field::{Head, fixed_field, near_field, near_head, vbr_field};
 use crate::slice::bytes_field;
 use crate::{AbbrevOp, BitFault};
@@ -27,21 +31,12 @@ pub struct Opened {
 }
 
 /// The character that six bits stand for.
+#[tactic(auto, unfolding(crate::specs::Stream::char6))]
 fn character(number: u64) -> u64
     requires { number < 64 }
     ensures { result ≡ char6 number }
 {
-    if number < 26 {
-        97 + number
-    } else if number < 52 {
-        39 + number
-    } else if number < 62 {
-        number - 4
-    } else if number == 62 {
-        46
-    } else {
-        95
-    }
+    CHAR6_CHARACTERS[number as usize] as u64
 }
 
 impl<'b> Cursor<'b> {
@@ -105,7 +100,7 @@ impl<'b> Cursor<'b> {
     {
         match near_head(self.bytes, self.at, width) {
             Some(head) => {
-                self.at += (width + 12) as u128;
+                self.at += (width + 2 * RECORD_WIDTH) as u128;
                 Some(head)
             }
             None => None,
@@ -117,7 +112,7 @@ impl<'b> Cursor<'b> {
     pub fn quick_vbr(&mut self) -> Option<u64>
         ensures { IfSome result (λ v. vbr_at 6 (here self.old) ≡ Ok (v, here self.new)) }
     {
-        match near_field(self.bytes, self.at, 6) {
+        match near_field(self.bytes, self.at, RECORD_WIDTH) {
             Some((value, behind)) => {
                 self.at = behind;
                 Some(value)
@@ -131,7 +126,8 @@ impl<'b> Cursor<'b> {
         ensures read { Gives (here self.new) result (align_at (here self.old)) }
         ensures word { OnOk result (self.new.at % 32 ≡ 0) }
     {
-        let pad = (32 - self.at % 32) % 32;
+        let word = WORD_BITS as u128;
+        let pad = (word - self.at % word) % word;
         if self.left() < pad {
             return Err(BitFault::Short { at: self.at });
         }
@@ -158,7 +154,7 @@ impl<'b> Cursor<'b> {
     pub fn blob(&mut self) -> Result<&'b [u8], BitFault>
         ensures { Gives (here self.new) (bytes_seen result) (blob_at (here self.old)) }
     {
-        let len = self.vbr(6)?;
+        let len = self.vbr(RECORD_WIDTH)?;
         self.align()?;
         let blob = self.bytes(len)?;
         self.align()?;
@@ -177,7 +173,7 @@ impl<'b> Cursor<'b> {
             AbbrevOp::Fixed(width) => self.fixed(width),
             AbbrevOp::Vbr(width) => self.vbr(width),
             AbbrevOp::Char6 => {
-                let number = self.fixed(6)?;
+                let number = self.fixed(CHAR6_WIDTH)?;
                 Ok(character(number))
             }
             AbbrevOp::Array => Ok(0),
@@ -191,17 +187,17 @@ impl<'b> Cursor<'b> {
         ensures read { Gives (here self.new) result (opened_at entered (here self.old)) }
         ensures width { IfOk result (λ opened. opened.width ≤ 32) }
     {
-        let block = self.vbr(8)?;
+        let block = self.vbr(BLOCK_ID_WIDTH)?;
         if block >= 4294967296 {
             return Err(BitFault::BadOperands { at: entered });
         }
-        let width = self.vbr(4)?;
-        if width < 2 || width > 32 {
+        let width = self.vbr(CODE_LEN_WIDTH)?;
+        if width < LEAST_ID_WIDTH as u64 || width > MOST_ID_WIDTH as u64 {
             return Err(BitFault::BadOperands { at: entered });
         }
         self.align()?;
-        let said = self.fixed(32)?;
-        if self.left() < 32 * said as u128 {
+        let said = self.fixed(BLOCK_SIZE_WIDTH)?;
+        if self.left() < WORD_BITS as u128 * said as u128 {
             return Err(BitFault::BadBlockLength { at: entered, said });
         }
         Ok(Opened {

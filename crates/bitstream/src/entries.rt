@@ -7,6 +7,10 @@ ghost use Rattle.bitstream.specs.Written.{OperandsFit};
 ghost use Rattle.bitstream.specs.Entries.{end_bits, enter_bits, definition_bits, record_bits, blob_bits};
 
 use crate::buffer::BitBuffer;
+use crate::codes::{
+    ABBREV_WIDTH, BLOCK_ID_WIDTH, BLOCK_SIZE_WIDTH, CODE_LEN_WIDTH, DEFINE_ABBREV, END_BLOCK,
+    ENTER_SUBBLOCK, RECORD_WIDTH, UNABBREV_RECORD,
+};
 use crate::packed::Packed;
 use crate::{AbbrevOp, NoMemory};
 
@@ -21,7 +25,7 @@ impl BitBuffer {
         ensures len { OnOk result (length self.old.bytes.items ≤ length self.new.bytes.items) }
         ensures kept { OnErr result (Grows self.old.bytes.items self.new.bytes.items) }
     {
-        self.push_bits(0, id_width)?;
+        self.push_bits(END_BLOCK, id_width)?;
         self.align()?;
         let words = (self.len() - at - 4) / 4;
         self.set_field(at, (words & 0xffff_ffff) as u32);
@@ -38,12 +42,12 @@ impl BitBuffer {
         ensures field { IfOk result (λ at. at + 4 ≤ length self.new.bytes.items) }
         ensures kept { Grows self.old.bytes.items self.new.bytes.items }
     {
-        self.push_bits(1, id_width)?;
-        self.push_vbr(block as u64, 8)?;
-        self.push_vbr(width as u64, 4)?;
+        self.push_bits(ENTER_SUBBLOCK, id_width)?;
+        self.push_vbr(block as u64, BLOCK_ID_WIDTH)?;
+        self.push_vbr(width as u64, CODE_LEN_WIDTH)?;
         self.align()?;
         let at = self.len();
-        self.push_bits(0, 32)?;
+        self.push_bits(0, BLOCK_SIZE_WIDTH)?;
         Ok(at)
     }
 
@@ -56,8 +60,8 @@ impl BitBuffer {
         ensures count { OnOk result (length ops.now < 2 ^ 64) }
         ensures kept { Grows self.old.bytes.items self.new.bytes.items }
     {
-        self.push_bits(2, id_width)?;
-        self.push_vbr(ops.len() as u64, 5)?;
+        self.push_bits(DEFINE_ABBREV, id_width)?;
+        self.push_vbr(ops.len() as u64, ABBREV_WIDTH)?;
         self.push_ops(ops)
     }
 
@@ -69,10 +73,10 @@ impl BitBuffer {
         ensures count { OnOk result (length ops.now < 2 ^ 64) }
         ensures kept { Grows self.old.bytes.items self.new.bytes.items }
     {
-        let packed = Packed::new(3, id_width);
-        let packed = self.pack_vbr(packed, code, 6)?;
-        let packed = self.pack_vbr(packed, ops.len() as u64, 6)?;
-        let packed = self.pack_vbrs(packed, ops, 6)?;
+        let packed = Packed::new(UNABBREV_RECORD, id_width);
+        let packed = self.pack_vbr(packed, code, RECORD_WIDTH)?;
+        let packed = self.pack_vbr(packed, ops.len() as u64, RECORD_WIDTH)?;
+        let packed = self.pack_vbrs(packed, ops, RECORD_WIDTH)?;
         self.push_packed(packed)?;
         Ok(())
     }
@@ -87,7 +91,7 @@ impl BitBuffer {
         ensures kept { Grows self.old.bytes.items self.new.bytes.items }
     {
         self.push_bits(id, id_width)?;
-        self.push_vbr(blob.len() as u64, 6)?;
+        self.push_vbr(blob.len() as u64, RECORD_WIDTH)?;
         self.align()?;
         self.push_bytes(blob)?;
         self.align()

@@ -2,7 +2,7 @@
 
 ghost use Rattle.std.specs.Prelude.{◌≡◌, ◌≤◌, ◌*◌, ◌+◌, ◌/◌, ◌%◌, ◌^◌, ◌<◌, length, Ok, OnOk, IfOk, IfSome, IfNone, OnSome};
 ghost use Rattle.bitstream.specs.Bits.{value, bits_of};
-ghost use Rattle.bitstream.specs.Fields.{fixed_at, vbr_at, place, Gives, GivesWith};
+ghost use Rattle.bitstream.specs.Fields.{fixed_at, vbr_at, input_at, Gives, GivesWith};
 
 use crate::BitFault;
 
@@ -35,7 +35,7 @@ fn bits_in(eight: &[u8; 8], skip: u32, width: u32) -> u64
 pub fn fixed_field(bytes: &[u8], at: u128, width: u32) -> Result<u64, BitFault>
     requires width { width ≤ 64 }
     requires at { at ≤ 8 * length bytes.now }
-    ensures read { Gives (place bytes.now (at + width)) result (fixed_at width (place bytes.now at)) }
+    ensures read { Gives (input_at bytes.now (at + width)) result (fixed_at width (input_at bytes.now at)) }
     ensures end { OnOk result (at + width ≤ 8 * length bytes.now) }
     ensures value { IfOk result (λ v. v < 2 ^ width) }
 {
@@ -62,9 +62,9 @@ pub struct Head {
 pub fn near_head(bytes: &[u8], at: u128, width: u32) -> Option<Head>
     requires width { width ≤ 32 }
     requires at { at ≤ 8 * length bytes.now }
-    ensures id { IfSome result (λ head. fixed_at width (place bytes.now at) ≡ Ok (head.id, place bytes.now (at + width))) }
-    ensures code { IfSome result (λ head. vbr_at 6 (place bytes.now (at + width)) ≡ Ok (head.code, place bytes.now (at + (width + 6)))) }
-    ensures count { IfSome result (λ head. vbr_at 6 (place bytes.now (at + (width + 6))) ≡ Ok (head.count, place bytes.now (at + (width + 12)))) }
+    ensures id { IfSome result (λ head. fixed_at width (input_at bytes.now at) ≡ Ok (head.id, input_at bytes.now (at + width))) }
+    ensures code { IfSome result (λ head. vbr_at 6 (input_at bytes.now (at + width)) ≡ Ok (head.code, input_at bytes.now (at + (width + 6)))) }
+    ensures count { IfSome result (λ head. vbr_at 6 (input_at bytes.now (at + (width + 6))) ≡ Ok (head.count, input_at bytes.now (at + (width + 12)))) }
     ensures end { OnSome result (at + (width + 12) ≤ 8 * length bytes.now) }
 {
     let (_, rest) = bytes.split_at((at / 8) as usize);
@@ -89,7 +89,7 @@ pub fn near_head(bytes: &[u8], at: u128, width: u32) -> Option<Head>
 fn any_field(bytes: &[u8], at: u128, width: u32) -> Result<u64, BitFault>
     requires width { width ≤ 64 }
     requires at { at ≤ 8 * length bytes.now }
-    ensures read { Gives (place bytes.now (at + width)) result (fixed_at width (place bytes.now at)) }
+    ensures read { Gives (input_at bytes.now (at + width)) result (fixed_at width (input_at bytes.now at)) }
     ensures end { OnOk result (at + width ≤ 8 * length bytes.now) }
     ensures value { IfOk result (λ v. v < 2 ^ width) }
 {
@@ -130,7 +130,7 @@ pub fn near_field(bytes: &[u8], at: u128, width: u32) -> Option<(u64, u128)>
     requires some { 0 < width }
     requires width { width ≤ 32 }
     requires at { at ≤ 8 * length bytes.now }
-    ensures read { IfSome result (λ x. vbr_at width (place bytes.now at) ≡ Ok (x.0, place bytes.now x.1)) }
+    ensures read { IfSome result (λ x. vbr_at width (input_at bytes.now at) ≡ Ok (x.0, input_at bytes.now x.1)) }
     ensures end { IfSome result (λ x. x.1 ≤ 8 * length bytes.now) }
 {
     let (_, rest) = bytes.split_at((at / 8) as usize);
@@ -163,7 +163,7 @@ pub fn near_field(bytes: &[u8], at: u128, width: u32) -> Option<(u64, u128)>
 pub fn vbr_field(bytes: &[u8], at: u128, width: u32) -> Result<(u64, u128), BitFault>
     requires width { width ≤ 32 }
     requires at { at ≤ 8 * length bytes.now }
-    ensures read { GivesWith bytes.now result (vbr_at width (place bytes.now at)) }
+    ensures read { GivesWith bytes.now result (vbr_at width (input_at bytes.now at)) }
     ensures end { IfOk result (λ x. x.1 ≤ 8 * length bytes.now) }
 {
     if width == 0 {
@@ -182,7 +182,7 @@ fn groups_field(bytes: &[u8], at: u128, width: u32) -> Result<(u64, u128), BitFa
     requires some { 0 < width }
     requires width { width ≤ 32 }
     requires at { at ≤ 8 * length bytes.now }
-    ensures read { GivesWith bytes.now result (vbr_at width (place bytes.now at)) }
+    ensures read { GivesWith bytes.now result (vbr_at width (input_at bytes.now at)) }
     ensures end { IfOk result (λ x. x.1 ≤ 8 * length bytes.now) }
 {
     let low = width - 1;

@@ -3,14 +3,15 @@
 #![tactic(auto)]
 
 mod abbrev;
+mod block_info;
 mod buffer;
+pub mod codes;
 mod cursor;
 mod definition;
 mod entries;
 mod entry_reader;
 mod field;
 mod item;
-mod known;
 mod laws;
 mod lists;
 mod no_memory;
@@ -19,6 +20,7 @@ mod packed;
 mod reader;
 mod slice;
 mod text;
+mod unfilled;
 mod writer;
 
 pub use item::{AbbrevOp, BitFault, Item};
@@ -31,6 +33,3 @@ pub use operands::Operands;
 pub use reader::BitReader;
 pub use text::Text;
 pub use writer::BitWriter;
-
-#[cfg(test)]
-mod tests;

@@ -6,12 +6,16 @@ ghost use Rattle.bitstream.specs.Cursor.{here};
 ghost use Rattle.bitstream.specs.Fields.{Gives};
 ghost use Rattle.bitstream.specs.Stream.{has_width, numbers_at, prefixed, op_at, encoded_at, may_stand as may_stand_lem, is_array as is_array_lem, is_blob as is_blob_lem, array_at, values_at, behind_numbers, GivesValues, ops_at, definition_at, GivesList, GivesInto};
 
+use crate::codes::{
+    ABBREV_WIDTH, ENCODING_ARRAY, ENCODING_BLOB, ENCODING_CHAR6, ENCODING_FIXED, ENCODING_VBR,
+    ENCODING_WIDTH, LITERAL_WIDTH, MOST_FIXED_WIDTH, MOST_VBR_WIDTH, RECORD_WIDTH,
+};
 use crate::cursor::Cursor;
 use crate::{AbbrevOp, BitFault};
 use arrayvec::ArrayVec;
 use std::alloc::Global;
 
-fn is_array(op: AbbrevOp) -> bool
+pub fn is_array(op: AbbrevOp) -> bool
     ensures { result ≡ is_array_lem op }
 {
     match op {
@@ -20,7 +24,7 @@ fn is_array(op: AbbrevOp) -> bool
     }
 }
 
-fn is_blob(op: AbbrevOp) -> bool
+pub fn is_blob(op: AbbrevOp) -> bool
     ensures { result ≡ is_blob_lem op }
 {
     match op {
@@ -98,7 +102,7 @@ impl<'b> Cursor<'b> {
         requires { All (λ op. IsTrue (has_width op)) ops.now }
         ensures { GivesInto (here self.new) values.new.items result (prefixed values.old.items (array_at ops.now (here self.old))) }
     {
-        let count = self.vbr(6)?;
+        let count = self.vbr(RECORD_WIDTH)?;
         let element = match ops.first() {
             Some(&op) => op,
             None => AbbrevOp::Char6,
@@ -148,30 +152,30 @@ impl<'b> Cursor<'b> {
         ensures read { Gives (here self.new) result (encoded_at entered at encoding (here self.old)) }
         ensures width { IfOk result (λ op. IsTrue (has_width op)) }
     {
-        if encoding == 1 {
-            let width = self.vbr(5)?;
-            if width > 64 {
+        if encoding == ENCODING_FIXED {
+            let width = self.vbr(ABBREV_WIDTH)?;
+            if width > MOST_FIXED_WIDTH as u64 {
                 return Err(BitFault::BadOperands { at: entered });
             }
             return Ok(AbbrevOp::Fixed(width as u32));
         }
-        if encoding == 2 {
-            let width = self.vbr(5)?;
+        if encoding == ENCODING_VBR {
+            let width = self.vbr(ABBREV_WIDTH)?;
             if width == 1 {
                 return Err(BitFault::BadOperands { at: entered });
             }
-            if width > 32 {
+            if width > MOST_VBR_WIDTH as u64 {
                 return Err(BitFault::BadOperands { at: entered });
             }
             return Ok(AbbrevOp::Vbr(width as u32));
         }
-        if encoding == 3 {
+        if encoding == ENCODING_ARRAY {
             return Ok(AbbrevOp::Array);
         }
-        if encoding == 4 {
+        if encoding == ENCODING_CHAR6 {
             return Ok(AbbrevOp::Char6);
         }
-        if encoding == 5 {
+        if encoding == ENCODING_BLOB {
             return Ok(AbbrevOp::Blob);
         }
         Err(BitFault::BadEncoding { at, code: encoding })
@@ -185,11 +189,11 @@ impl<'b> Cursor<'b> {
     {
         let flag = self.fixed(1)?;
         if flag == 1 {
-            let value = self.vbr(8)?;
+            let value = self.vbr(LITERAL_WIDTH)?;
             return Ok(AbbrevOp::Literal(value));
         }
         let at = self.at();
-        let encoding = self.fixed(3)?;
+        let encoding = self.fixed(ENCODING_WIDTH)?;
         self.encoded(entered, at, encoding)
     }
 
@@ -223,7 +227,7 @@ impl<'b> Cursor<'b> {
         ensures read { GivesList (here self.new) result (definition_at entered (here self.old)) }
         ensures widths { IfOk result (λ ops. All (λ op. IsTrue (has_width op)) ops.items) }
     {
-        let count = self.vbr(5)?;
+        let count = self.vbr(ABBREV_WIDTH)?;
         if count == 0 {
             return Err(BitFault::BadOperands { at: entered });
         }

@@ -120,7 +120,7 @@ impl<'b> BitReader<'b> {
             return Err(fault);
         }
         let mut numbers = ArrayVec::new();
-        if let Some((at, code)) = self.entries.quick_record(&mut numbers) {
+        if let Some((at, code)) = self.entries.unabbreviated_fast_path(&mut numbers) {
             self.item = at;
             return Ok(Item::Rec {
                 code,

@@ -1,7 +1,7 @@
 //! Whole bytes of the input.
 
 ghost use Rattle.std.specs.Prelude.{◌≡◌, ◌≤◌, ◌*◌, ◌+◌, ◌%◌, length, OnOk};
-ghost use Rattle.bitstream.specs.Fields.{place, Gives, bytes_seen};
+ghost use Rattle.bitstream.specs.Fields.{input_at, Gives, bytes_seen};
 ghost use Rattle.bitstream.specs.Stream.{bytes_at};
 
 use crate::BitFault;
@@ -10,7 +10,7 @@ use crate::BitFault;
 pub fn bytes_field<'b>(bytes: &'b [u8], at: u128, len: u64) -> Result<&'b [u8], BitFault>
     requires whole { at % 8 ≡ 0 }
     requires at { at ≤ 8 * length bytes.now }
-    ensures read { Gives (place bytes.now (at + 8 * len)) (bytes_seen result) (bytes_at len (place bytes.now at)) }
+    ensures read { Gives (input_at bytes.now (at + 8 * len)) (bytes_seen result) (bytes_at len (input_at bytes.now at)) }
     ensures end { OnOk result (at + 8 * len ≤ 8 * length bytes.now) }
 {
     let (_, rest) = bytes.split_at((at / 8) as usize);

@@ -4,6 +4,7 @@ ghost use Rattle.bitstream.specs.Writing.{vbr_bits};
 
 use crate::abbrev::Abbrev;
 use crate::buffer::BitBuffer;
+use crate::codes::{FIRST_APPLICATION_ABBREV, OUTER_ID_WIDTH};
 use crate::{AbbrevOp, NoMemory, Text};
 use std::alloc::Global;
 
@@ -36,8 +37,8 @@ pub struct BitWriter {
 }
 
 impl BitWriter {
-    ghost use Rattle.bitstream.specs.Writer.{writing, nothing_written, with_bits, entered, Leaves, next_id, defined, recorded, with_blob, IsBlobId, is_definition};
-    ghost use Rattle.bitstream.specs.Reading.{Seen, Enters, Leaves as LeavesBlock, Record};
+    ghost use Rattle.bitstream.specs.Writer.{writing, nothing_written, with_bits, entered, EndsBlock, next_id, defined, recorded, with_blob, IsBlobId, is_definition};
+    ghost use Rattle.bitstream.specs.Reading.{Seen, Enters, LeaveBlock, Record};
     ghost use Rattle.bitstream.specs.Stands.{StandFor};
     ghost use Rattle.bitstream.specs.Items.{items_in};
     ghost use Rattle.bitstream.specs.Written.{HasWritten, IsBlobCode};
@@ -50,7 +51,7 @@ impl BitWriter {
         BitWriter {
             alloc,
             buffer: BitBuffer::new(alloc),
-            width: 2,
+            width: OUTER_ID_WIDTH,
             abbrevs: Vec::new(alloc),
             first: 0,
             blocks: Vec::new(alloc),
@@ -120,8 +121,8 @@ impl BitWriter {
     /// Ends the innermost block, and writes its length in words, modulo 2^32, into its beginning.
     pub fn leave(&mut self) -> Result<(), NoMemory>
         requires { 0 < length (writing self.old).blocks }
-        ensures ok { OnOk result (Leaves (writing self.old) (writing self.new)) }
-        ensures wrote { OnOk result ((items : List (ℕ × Seen)) → HasWritten items (writing self.old) → HasWritten (items ++ (length (writing self.old).bits, LeavesBlock) ∷ []) (writing self.new)) }
+        ensures ok { OnOk result (EndsBlock (writing self.old) (writing self.new)) }
+        ensures wrote { OnOk result ((items : List (ℕ × Seen)) → HasWritten items (writing self.old) → HasWritten (items ++ (length (writing self.old).bits, LeaveBlock) ∷ []) (writing self.new)) }
         ensures depth { OnOk result (length (writing self.new).blocks + 1 ≡ length (writing self.old).blocks) }
         ensures words { OnOk result (length (writing self.new).bits % 32 ≡ 0) }
         ensures err { OnErr result (writing self.new ≡ writing self.old) }
@@ -148,7 +149,7 @@ impl BitWriter {
         ensures id { IfOk result (λ id. id ≡ next_id (writing self.old)) }
         ensures err { OnErr result (writing self.new ≡ writing self.old) }
     {
-        let id = 4 + self.abbrevs.len().saturating_sub(self.first) as u64;
+        let id = FIRST_APPLICATION_ABBREV + self.abbrevs.len().saturating_sub(self.first) as u64;
         let abbrev = Abbrev::from_slice(self.alloc, ops)?;
         let mark = self.buffer.mark();
         if let Err(error) = self.buffer.push_definition(self.width, ops) {

@@ -1,2 +1,3 @@
-pub mod ReadBackLemmas
 pub mod RecordLemmas
+pub mod SourcesLemmas
+pub mod ReadBackLemmas

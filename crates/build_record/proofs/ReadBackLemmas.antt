@@ -1,14 +1,15 @@
 -- The record that a record's value is.
-use Rattle.std.proofs.Common.{◌≡◌, ◌∙◌, ◌^◌, ◌&&◌, ◌≤◌, ap, ℕ, suc, max, List, [], ◌∷◌, ◌++◌, map, Option, Some, None, Ok, Bool, true, false, cond, Ordering, Less, Equal, Greater, refl, sym, subst, arith, append_assoc, append-nil, nat_lt, All, IsTrue}
+use Rattle.std.proofs.Common.{◌≡◌, ◌∙◌, ◌^◌, ◌≤◌, ap, ℕ, suc, max, List, [], ◌∷◌, ◌++◌, map, Option, Some, None, Ok, Bool, true, false, cond, Ordering, Less, Equal, Greater, refl, sym, subst, arith, append_assoc, append-nil, nat_lt, All, IsTrue}
 use Rattle.std.specs.Prelude.{Err, IsUtf8, option_and_then, option_map}
 use Rattle.std.specs.List.{list_all, AllByRecursion}
 use Rattle.std.specs.List.Sorted.{IsStrictlySortedBy}
 use Rattle.std.specs.Ordering.{nat_cmp, match_ordering, ordering_reverse}
 use Rattle.std.specs.Cmp.Lexicographic.{slice_cmp, nat_list_cmp_total}
+use Rattle.std.proofs.lemmas.Bool.{and_parts}
 use Rattle.std.proofs.lemmas.Map.Keys.{sorted_head, sorted_tail}
 use Rattle.drv_outside.specs.Plain.{is_plain_path}
-use Rattle.drv_outside.specs.declared.words.Stamp.{Stamp}
-use Rattle.drv_outside.specs.declared.build_words.RecordFault.{RecordFault}
+use Rattle.drv_outside.specs.declared.types.Stamp.{Stamp}
+use Rattle.drv_outside.specs.declared.faults.RecordFault.{RecordFault}
 use Rattle.serde_json.specs.Data.{Data, Members, member, no_members, put, depth, members_depth}
 use Rattle.serde_json.specs.Read.{read, max_depth}
 use Rattle.build_record.specs.Format.{stamp_value, with_files, map_value, record_value, word_of}
@@ -19,14 +20,6 @@ use Rattle.build_record.specs.declared.record.FileState.{FileState}
 
 abbrev order : List ℕ → List ℕ → Ordering
 order = slice_cmp nat_cmp
-
-front : (a b : Bool) → a && b ≡ true → a ≡ true
-front true b e = refl
-front false b e = e
-
-back : (a b : Bool) → a && b ≡ true → b ≡ true
-back true b e = e
-back false b e = cc
 
 -- the members of files, in their order
 abbrev listed : List FileState → Members
@@ -80,8 +73,8 @@ file_read f p n = file_if f _ _ refl refl p n
 files_read : (before fs : List FileState) → All (λ f. IsTrue (is_plain_path f.path)) fs → list_all nanos_fit fs ≡ true → files_after before (listed fs) ≡ Ok (before ++ fs)
 files_read before [] all n = ap Ok (sym (append-nil before))
 files_read before (f ∷ fs) all n =
-    ap (some_or (Err (RecordFault.File f.path)) (λ file. files_after (before ++ file ∷ []) (listed fs))) (file_read f (all 0 f (omega arith)) (front _ _ n))
-    ∙ files_read (before ++ f ∷ []) fs (λ k d lt. all (suc k) d (omega (arith, lt))) (back (nanos_fit f) _ n)
+    ap (some_or (Err (RecordFault.File f.path)) (λ file. files_after (before ++ file ∷ []) (listed fs))) (file_read f (all 0 f (omega arith)) (and_parts _ _ n).0)
+    ∙ files_read (before ++ f ∷ []) fs (λ k d lt. all (suc k) d (omega (arith, lt))) (and_parts (nanos_fit f) _ n).1
     ∙ ap Ok (append_assoc before (f ∷ []) fs)
 
 sources_read : (r : BuildRecord) → AreSources r.files → list_all nanos_fit r.files ≡ true → files_after [] (with_files no_members r.files) ≡ Ok r.files

@@ -1,6 +1,6 @@
 -- The JSON value of a build record, and its text.
 use Rattle.std.specs.Prelude.{List, [], ◌∷◌, ℕ, Bool, Option, Some, None, codes, if◌then◌else◌}
-use Rattle.drv_outside.specs.declared.words.Stamp.{Stamp}
+use Rattle.drv_outside.specs.declared.types.Stamp.{Stamp}
 use Rattle.serde_json.specs.Data.{Data, null, number, unsigned, string, array, object, item, no_items, Members, member, no_members, put}
 use Rattle.serde_json.specs.Written.{compact_text}
 use Rattle.build_record.specs.declared.record.BuildRecord.{BuildRecord}

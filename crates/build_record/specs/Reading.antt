@@ -2,9 +2,9 @@
 use Rattle.std.specs.Prelude.{◌≡◌, ◌^◌, ◌||◌, ◌==◌, nat_lt, nat_eq, is_none, ◌⊎◌, List, [], ◌∷◌, ◌++◌, ℕ, Bool, true, false, Option, Some, None, Result, Ok, Err, option_map, option_and_then, codes, if◌then◌else◌, IsUtf8, ⊤}
 use Rattle.std.specs.Cmp.Lexicographic.{pointwise}
 use Rattle.drv_outside.specs.Plain.{is_plain_path}
-use Rattle.drv_outside.specs.declared.words.Stamp.{Stamp}
-use Rattle.drv_outside.specs.declared.build_words.RecordFault.{RecordFault}
-use Rattle.drv_outside.specs.declared.build_words.RecordFault.TheVariants.{NotJson, Field, Version, File}
+use Rattle.drv_outside.specs.declared.types.Stamp.{Stamp}
+use Rattle.drv_outside.specs.declared.faults.RecordFault.{RecordFault}
+use Rattle.drv_outside.specs.declared.faults.RecordFault.TheVariants.{NotJson, Field, Version, File}
 use Rattle.serde_json.specs.Data.{Data, null, boolean, number, string, array, object, Members, member, no_members}
 use Rattle.serde_json.specs.Find.{get, at, as_str, as_number, as_u64, as_object}
 use Rattle.serde_json.specs.Read.{read}

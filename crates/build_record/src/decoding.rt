@@ -1,8 +1,9 @@
-ghost use Rattle.std.specs.Prelude.{◌≡◌, [], IfOk, IfErr, option_map, option_and_then, codes};
-ghost use Rattle.drv_outside.specs.declared.build_words.RecordFault.TheVariants.{Field};
+ghost use Rattle.std.specs.Prelude.{◌≡◌, [], IfOk, IfErr, IfSome, IsUtf8, option_map, option_and_then, codes};
+ghost use Rattle.drv_outside.specs.declared.faults.RecordFault.TheVariants.{Field};
 ghost use Rattle.serde_json.specs.Find.{get, as_object};
 ghost use Rattle.serde_json.specs.View.{view, members_view};
 ghost use Rattle.build_record.specs.Reading.{text_or_null, is_member_name, other_name, of_files, files_after, fields_of, record_of, IsTextOfRecord, IsEnd};
+ghost use Rattle.build_record.specs.Sources.{AreSources, CanBeWritten};
 
 use crate::files::files_of;
 use crate::{BuildRecord, RecordEnd};
@@ -53,12 +54,21 @@ fn field_fault(alloc: Global, name: &str) -> Result<RecordFault, NoMemory>
     Ok(RecordFault::Field { name })
 }
 
+fn copy_of(alloc: Global, text: &str) -> Result<Text, NoMemory>
+    ensures same { IfOk result (λ copy. copy ≡ text.now) }
+    ensures utf8 { IfOk result IsUtf8 }
+{
+    let copy = Text::from_slice(alloc, text.as_bytes())?;
+    Ok(copy)
+}
+
 fn text_of(alloc: Global, text: Option<&str>) -> Result<Option<Text>, NoMemory>
-    ensures { IfOk result (λ copy. copy ≡ option_map (λ t. t.now) text.entry) }
+    ensures same { IfOk result (λ copy. copy ≡ option_map (λ t. t.now) text.entry) }
+    ensures utf8 { IfOk result (λ copy. IfSome copy IsUtf8) }
 {
     match text {
         Some(text) => {
-            let copy = Text::from_slice(alloc, text.as_bytes())?;
+            let copy = copy_of(alloc, text)?;
             Ok(Some(copy))
         }
         None => Ok(None),
@@ -71,10 +81,11 @@ fn record_with(
     map: Option<&str>,
     files: &Map<String, Value>,
 ) -> Result<Answer, NoMemory>
-    ensures { IfOk result (λ answer. answer ≡ of_files name.now (option_map (λ text. text.now) map.entry) (files_after [] (members_view files.now.entries))) }
+    ensures answer { IfOk result (λ answer. answer ≡ of_files name.now (option_map (λ text. text.now) map.entry) (files_after [] (members_view files.now.entries))) }
+    ensures writable { IfOk result (λ answer. IfOk answer CanBeWritten) }
 {
     let map = text_of(alloc, map)?;
-    let module = Text::from_slice(alloc, name.as_bytes())?;
+    let module = copy_of(alloc, name)?;
     match files_of(alloc, files)? {
         Ok(files) => Ok(Ok(BuildRecord { module, map, files })),
         Err(fault) => Ok(Err(fault)),
@@ -83,7 +94,8 @@ fn record_with(
 
 #[tactic(auto, unfolding(crate::specs::Reading::fields_of))]
 fn fields_of(alloc: Global, value: &Value) -> Result<Answer, NoMemory>
-    ensures { IfOk result (λ answer. answer ≡ fields_of (view value.now)) }
+    ensures answer { IfOk result (λ answer. answer ≡ fields_of (view value.now)) }
+    ensures writable { IfOk result (λ answer. IfOk answer CanBeWritten) }
 {
     let Some(files) = value.get("files").and_then(Value::as_object) else {
         return Ok(Err(field_fault(alloc, "files")?));
@@ -103,7 +115,8 @@ fn fields_of(alloc: Global, value: &Value) -> Result<Answer, NoMemory>
 
 #[tactic(auto, unfolding(crate::specs::Reading::record_of))]
 fn record_of(alloc: Global, value: &Value) -> Result<Answer, NoMemory>
-    ensures { IfOk result (λ answer. answer ≡ record_of (view value.now)) }
+    ensures answer { IfOk result (λ answer. answer ≡ record_of (view value.now)) }
+    ensures writable { IfOk result (λ answer. IfOk answer CanBeWritten) }
 {
     let Some(found) = value.get("version").and_then(Value::as_u64) else {
         return Ok(Err(field_fault(alloc, "version")?));
@@ -117,7 +130,8 @@ fn record_of(alloc: Global, value: &Value) -> Result<Answer, NoMemory>
 
 /// The record that these bytes are the text of.
 ///
-/// JSON is read as `serde_json` reads it: of a member that comes twice the last counts.
+/// JSON is read as `serde_json` reads it: of a member that comes twice the last counts. The record can
+/// be given to `encode` as it is, and its files are by path, each path once.
 ///
 /// # Errors
 ///
@@ -126,6 +140,9 @@ fn record_of(alloc: Global, value: &Value) -> Result<Answer, NoMemory>
 /// least file whose path isn't plain or that has another form. `NoMemory` where memory was wanted.
 pub fn decode(alloc: Global, bytes: &[u8]) -> Result<BuildRecord, RecordEnd>
     ensures record { IfOk result (λ r. IsTextOfRecord bytes.now r) }
+    ensures sources { IfOk result (λ r. AreSources r.files) }
+    ensures module { IfOk result (λ r. IsUtf8 r.module) }
+    ensures map { IfOk result (λ r. IfSome r.map IsUtf8) }
     ensures fault { IfErr result (λ end. IsEnd bytes.now end) }
 {
     let value = match Value::from_slice(alloc, bytes) {

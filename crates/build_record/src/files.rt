@@ -1,6 +1,7 @@
 ghost use Rattle.std.specs.Prelude.{◌≡◌, [], IfOk};
 ghost use Rattle.serde_json.specs.View.{view, members_view};
 ghost use Rattle.build_record.specs.Reading.{number_at, stamp_of, clean_word, clean_of, file_of, files_after};
+ghost use Rattle.build_record.specs.Sources.{AreSources};
 
 use crate::FileState;
 use drv_outside::{NoMemory, Path, RecordFault, Stamp, Text, is_plain_path};
@@ -71,7 +72,8 @@ pub fn files_of(
     alloc: Global,
     members: &Map<String, Value>,
 ) -> Result<Result<Items<FileState>, RecordFault>, NoMemory>
-    ensures { IfOk result (λ files. files ≡ files_after [] (members_view members.now.entries)) }
+    ensures files { IfOk result (λ files. files ≡ files_after [] (members_view members.now.entries)) }
+    ensures sources { IfOk result (λ files. IfOk files AreSources) }
 {
     let mut files = Items::new(alloc);
     for (path, value) in members.iter() {

@@ -15,6 +15,3 @@ pub use decoding::decode;
 pub use drv_outside::RecordFault;
 pub use encoding::encode;
 pub use record::{BuildRecord, FileState, RecordEnd};
-
-#[cfg(test)]
-mod tests;

@@ -10,7 +10,7 @@ use Rattle.std.specs.declared.alloc.Global.{Global}
 use Rattle.std.proofs.lemmas.List.{drop_all}
 use Rattle.dep_key.specs.declared.key.Key.{Key}
 use Rattle.dep_key.specs.KeyOrder.{key_order, key_order_total}
-use Rattle.dep_key.proofs.KeyLaws.{keys_apart}
+use Rattle.dep_key.specs.KeysApart.{keys_apart}
 use Rattle.swift_ast.specs.declared.declarations.FileTree.{FileTree}
 use Rattle.decl_index.specs.Providers.{Entry, is_key, entries_of, found, providers, items_or_none, InStep}
 use Rattle.decl_index.specs.declared.index.DeclRef.{DeclRef}

@@ -1,2 +1,4 @@
-pub mod FileKeys
+pub mod Declarations
+pub mod Spots
 pub mod Providers
+pub mod Found

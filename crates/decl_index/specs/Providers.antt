@@ -7,8 +7,10 @@ use Rattle.std.specs.declared.alloc.Global.{Global}
 use Rattle.dep_key.specs.declared.key.Key.{Key}
 use Rattle.dep_key.specs.KeyOrder.{key_order}
 use Rattle.swift_ast.specs.declared.declarations.FileTree.{FileTree}
-use Rattle.decl_index.specs.FileKeys.{file_keys}
+use Rattle.decl_index.specs.Declarations.{file_keys}
 use Rattle.decl_index.specs.declared.index.DeclRef.{DeclRef}
+use Rattle.decl_index.specs.declared.spots.Spot.{Spot}
+use Rattle.decl_index.specs.Spots.{file_spots}
 
 -- A key and the declaration that has it. (The keys of one declaration differ in kind.)
 abbrev pub Entry : Type 0
@@ -47,3 +49,9 @@ items_or_none (Some v) = v.items
 -- The map has the providers of each key.
 pub record InStep (files : List FileTree) (map_of : BTreeMap Key (Vec DeclRef Global)) : Type 0 where
   pub at : (key : Key) → items_or_none (get key_order map_of key) ≡ providers files key
+
+-- What an index keeps is in step with the files: the providers of each key, and of each file its declarations' keys and spots.
+pub record IsIndexed (files : List FileTree) (keys : List (List (List Key))) (spots : List (List Spot)) (map_of : BTreeMap Key (Vec DeclRef Global)) : Type 0 where
+  pub providers : InStep files map_of
+  pub keys_are : keys ≡ map file_keys files
+  pub spots_are : spots ≡ map file_spots files

@@ -2,12 +2,17 @@
 
 ghost use Rattle.std.specs.Prelude.{◌≡◌, ◌++◌, ◌∷◌, [], IfOk, OnOk};
 ghost use Rattle.std.specs.BTreeMap.{get};
+ghost use Rattle.std.specs.Option.{option_map};
+ghost use Rattle.decl_index.specs.Found.{shown_declaration, found_at, declaration_at};
 ghost use Rattle.dep_key.specs.declared.key.Key.{Key};
 ghost use Rattle.dep_key.specs.KeyOrder.{key_order};
 ghost use Rattle.decl_index.specs.Providers.{reference, entries_at, entries_from, found, items_or_none, providers, InStep};
 
-use crate::declared::declared_keys;
+use crate::declarations::{KeyLists, declared_keys, key_lists};
+use crate::found::{Declared, found_in};
+use crate::spots::{Spots, spots_in};
 use dep_key::{FileNo, Key, Keys, NoMemory};
+use sqlite_items::at;
 use std::alloc::Global;
 use std::collections::BTreeMap;
 use std::marker::Model;
@@ -29,6 +34,10 @@ pub struct DeclRef {
 #[derive(Drop)]
 pub struct Index {
     files: Vec<FileTree>,
+    /// Of each file the keys of its declarations, by place.
+    keys: Vec<KeyLists>,
+    /// Of each file where its declarations stand in its tree, by place.
+    spots: Vec<Spots>,
     providers: BTreeMap<Key, Vec<DeclRef>>,
 }
 
@@ -38,7 +47,7 @@ impl Model for Index {
     ghost use Rattle.std.specs.Coded.{codes};
     ghost use Rattle.swift_ast.specs.contracts.expressions.Expr as expr;
     ghost use Rattle.swift_ast.specs.contracts.statements.Block as block;
-    ghost use Rattle.decl_index.specs.Providers.{InStep};
+    ghost use Rattle.decl_index.specs.Providers.{IsIndexed};
 
     ghost Value = { List FileTree };
 
@@ -46,7 +55,7 @@ impl Model for Index {
 
     ghost view = { λ s. s.files.items };
 
-    ghost invariant = { λ s. InStep s.files.items s.providers };
+    ghost invariant = { λ s. IsIndexed s.files.items s.keys.items s.spots.items s.providers };
 }
 
 /// Enters a declaration under one of its keys.
@@ -127,13 +136,43 @@ fn enter_files(alloc: Global, files: &[FileTree]) -> Result<BTreeMap<Key, Vec<De
     Ok(providers)
 }
 
+/// The declaration of a reference, by the keys and spots of each file.
+fn found_at<'a>(
+    files: &'a [FileTree],
+    keys: &'a [KeyLists],
+    spots: &'a [Spots],
+    reference: DeclRef,
+) -> Option<Declared<'a>>
+    ensures { option_map shown_declaration result ≡ found_at files.now keys.now spots.now reference }
+{
+    let number = reference.file as usize;
+    let place = reference.place as usize;
+    match at(files, number) {
+        Some(file) => match at(keys, number) {
+            Some(keys) => match at(spots, number) {
+                Some(spots) => found_in(file, keys.as_slice(), spots.as_slice(), place),
+                None => None,
+            },
+            None => None,
+        },
+        None => None,
+    }
+}
+
 impl Index {
     /// Enters the declarations of all files, in their order. Numbers of 2^32 and more have no room.
     pub fn new(alloc: Global, files: Vec<FileTree>) -> Result<Index, NoMemory>
         ensures files { IfOk result (λ index. index ≡ files.items) }
     {
+        let keys = key_lists(alloc, files.as_slice())?;
+        let spots = spots_in(alloc, files.as_slice())?;
         let providers = enter_files(alloc, files.as_slice())?;
-        Ok(Index { files, providers })
+        Ok(Index {
+            files,
+            keys,
+            spots,
+            providers,
+        })
     }
 
     /// The trees, in the order in which they were handed in.
@@ -151,5 +190,13 @@ impl Index {
             Some(found) => found.as_slice(),
             None => &[],
         }
+    }
+
+    /// The declaration of a reference, with its keys, and `None` where the files have no such place. Takes no memory, and
+    /// the same time in every project.
+    pub fn declared(&self, reference: DeclRef) -> Option<Declared<'_>>
+        ensures declared { option_map shown_declaration result ≡ declaration_at self.now reference }
+    {
+        found_at(&self.files, &self.keys, &self.spots, reference)
     }
 }

@@ -1,9 +1,9 @@
 //! The keys of one declaration.
 
 ghost use Rattle.std.specs.Prelude.{◌≡◌, [], ◌∷◌, IfOk};
-ghost use Rattle.decl_index.specs.FileKeys.{top_level, nominal, potential_member, member_of, is_private, key_name, global_keys, struct_keys, extension_keys, member_keys};
+ghost use Rattle.decl_index.specs.Declarations.{is_private, global_keys, struct_keys, extension_keys, member_keys};
 
-use dep_key::{Aspect, Key, Keys, Kind, Name, NoMemory};
+use dep_key::{Key, Keys, Name, NoMemory};
 use std::alloc::Global;
 use swift_ast::Access;
 
@@ -20,61 +20,6 @@ pub fn is_private(access: &Option<Access>) -> bool
     }
 }
 
-/// The name by which a declaration is known in the module.
-pub fn key_name(alloc: Global, path: &str, is_private: bool, name: &str) -> Result<Name, NoMemory>
-    ensures { IfOk result (λ made. made ≡ key_name path.now is_private name.now) }
-{
-    if is_private {
-        let text = format!(in alloc; "{name}@{path}")?;
-        let name = Name::from_string(text)?;
-        return Ok(name);
-    }
-    let name = Name::from_str(alloc, name)?;
-    Ok(name)
-}
-
-fn copy_of(name: &Name) -> Result<Name, NoMemory>
-    ensures { IfOk result (λ copy. copy ≡ name.now) }
-{
-    Ok(name.clone()?)
-}
-
-fn top_level(alloc: Global, name: Name) -> Result<Key, NoMemory>
-    ensures { IfOk result (λ key. key ≡ top_level name) }
-{
-    let context = Name::from_str(alloc, "")?;
-    Ok(Key {
-        kind: Kind::TopLevel,
-        aspect: Aspect::Interface,
-        context,
-        name,
-    })
-}
-
-fn nominal(alloc: Global, context: Name) -> Result<Key, NoMemory>
-    ensures { IfOk result (λ key. key ≡ nominal context) }
-{
-    let name = Name::from_str(alloc, "")?;
-    Ok(Key {
-        kind: Kind::Nominal,
-        aspect: Aspect::Interface,
-        context,
-        name,
-    })
-}
-
-fn potential_member(alloc: Global, context: Name) -> Result<Key, NoMemory>
-    ensures { IfOk result (λ key. key ≡ potential_member context) }
-{
-    let name = Name::from_str(alloc, "")?;
-    Ok(Key {
-        kind: Kind::PotentialMember,
-        aspect: Aspect::Interface,
-        context,
-        name,
-    })
-}
-
 /// One key alone.
 fn alone(alloc: Global, key: Key) -> Result<Keys, NoMemory>
     ensures { IfOk result (λ keys. keys ≡ key ∷ []) }
@@ -88,8 +33,7 @@ fn alone(alloc: Global, key: Key) -> Result<Keys, NoMemory>
 pub fn global_keys(alloc: Global, name: Name) -> Result<Keys, NoMemory>
     ensures { IfOk result (λ keys. keys ≡ global_keys name) }
 {
-    let key = top_level(alloc, name)?;
-    let keys = alone(alloc, key)?;
+    let keys = alone(alloc, Key::top_level(name))?;
     Ok(keys)
 }
 
@@ -97,9 +41,9 @@ pub fn global_keys(alloc: Global, name: Name) -> Result<Keys, NoMemory>
 pub fn struct_keys(alloc: Global, name: &Name) -> Result<Keys, NoMemory>
     ensures { IfOk result (λ keys. keys ≡ struct_keys name.now) }
 {
-    let own = top_level(alloc, copy_of(name)?)?;
-    let stored = nominal(alloc, copy_of(name)?)?;
-    let members = potential_member(alloc, copy_of(name)?)?;
+    let own = Key::top_level(name.clone()?);
+    let stored = Key::nominal(name.clone()?);
+    let members = Key::potential_member(name.clone()?);
     let mut keys = Vec::new(alloc);
     keys.push(own)?;
     keys.push(stored)?;
@@ -111,7 +55,7 @@ pub fn struct_keys(alloc: Global, name: &Name) -> Result<Keys, NoMemory>
 pub fn extension_keys(alloc: Global, context: &Name) -> Result<Keys, NoMemory>
     ensures { IfOk result (λ keys. keys ≡ extension_keys context.now) }
 {
-    let key = potential_member(alloc, copy_of(context)?)?;
+    let key = Key::potential_member(context.clone()?);
     let keys = alone(alloc, key)?;
     Ok(keys)
 }
@@ -120,13 +64,7 @@ pub fn extension_keys(alloc: Global, context: &Name) -> Result<Keys, NoMemory>
 pub fn member_keys(alloc: Global, context: &Name, name: Name) -> Result<Keys, NoMemory>
     ensures { IfOk result (λ keys. keys ≡ member_keys context.now name) }
 {
-    let context = copy_of(context)?;
-    let key = Key {
-        kind: Kind::Member,
-        aspect: Aspect::Interface,
-        context,
-        name,
-    };
+    let key = Key::member(context.clone()?, name);
     let keys = alone(alloc, key)?;
     Ok(keys)
 }

@@ -4,11 +4,14 @@
 //! index answers which declarations have a key.
 #![tactic(auto)]
 
-mod declared;
+mod declarations;
+mod found;
 mod index;
 mod keys;
 mod private_structs;
+mod spots;
 
-pub use declared::declared_keys;
+pub use declarations::declared_keys;
 pub use dep_key::{Key, Keys, NoMemory};
+pub use found::{Declared, Item};
 pub use index::{DeclRef, Index};

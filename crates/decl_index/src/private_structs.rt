@@ -4,7 +4,7 @@ ghost use Rattle.std.specs.Prelude.{◌≡◌, ◌++◌, ℕ, List, IfOk, OnOk};
 ghost use Rattle.std.specs.BTreeSet as sets;
 ghost use Rattle.std.specs.Ordering.{nat_cmp};
 ghost use Rattle.std.specs.Cmp.Lexicographic.{slice_cmp};
-ghost use Rattle.decl_index.specs.FileKeys.{struct_name, private_struct, private_structs, is_among};
+ghost use Rattle.decl_index.specs.Declarations.{struct_name, private_struct, private_structs, is_among};
 
 use crate::keys::is_private;
 use dep_key::{Name, NoMemory};

@@ -1,2 +1,2 @@
 pub mod OrderLaws
-pub mod KeyLaws
+pub mod MovedLemmas

@@ -1,5 +1,5 @@
--- The order of keys, and which parts of a key are filled.
-use Rattle.std.specs.Prelude.{ℕ, Bool, true, false, not, ◌&&◌, ◌==◌, if◌then◌else◌, List, length, Option, Some, None}
+-- The order of keys.
+use Rattle.std.specs.Prelude.{ℕ, ◌==◌, if◌then◌else◌, Option, Some, None}
 use Rattle.std.specs.declared.cmp.Ordering.{Ordering}
 use Rattle.std.specs.Ordering.{nat_cmp, on, then_cmp}
 use Rattle.std.specs.Cmp.{IsTotalOrder, then_total, on_total, nat_cmp_total}
@@ -47,33 +47,3 @@ key_order_total =
     then_total (on_total (λ (k : Key). kind_number k.kind) nat_cmp_total)
     (then_total (on_total (λ (k : Key). aspect_number k.aspect) nat_cmp_total)
     (then_total (on_total (λ (k : Key). k.context) nat_list_cmp_total) (on_total (λ (k : Key). k.name) nat_list_cmp_total)))
-
-abbrev pub is_filled : List ℕ → Bool
-is_filled text = not (length text == 0)
-
--- which parts a key of a kind has: whether its context is filled, and whether its name is
-abbrev pub has_context : Kind → Bool
-has_context TopLevel = false
-has_context Nominal = true
-has_context PotentialMember = true
-has_context Member = true
-has_context DynamicLookup = false
-has_context ExternalDepend = false
-has_context SourceFileProvide = false
-
-abbrev pub has_name : Kind → Bool
-has_name TopLevel = true
-has_name Nominal = false
-has_name PotentialMember = false
-has_name Member = true
-has_name DynamicLookup = true
-has_name ExternalDepend = true
-has_name SourceFileProvide = true
-
--- The context and the name are filled where the kind has them, and else empty.
-abbrev pub same_test : Bool → Bool → Bool
-same_test true b = b
-same_test false b = not b
-
-abbrev pub has_shape : Key → Bool
-has_shape key = same_test (has_context key.kind) (is_filled key.context) && same_test (has_name key.kind) (is_filled key.name)

@@ -1,5 +1,12 @@
 pub mod Characters
-pub mod GraphOrder
 pub mod KeyOrder
+pub mod KeysApart
+pub mod KeyShapes
+pub mod KeyBuilders
+pub mod Printed
+pub mod Hashing
+pub mod GraphOrder
 pub mod Scans
 pub mod Sameness
+pub mod Digests
+pub mod Moved

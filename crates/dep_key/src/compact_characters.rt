@@ -1,4 +1,4 @@
-ghost use Rattle.std.specs.Prelude.{◌≡◌, nat_eq, string_bytes, IfOk};
+ghost use Rattle.std.specs.Prelude.{◌≡◌, [], nat_eq, string_bytes, IfOk};
 ghost use Rattle.std.proofs.Common.{rules};
 ghost use Rattle.std.specs.Cmp.{partial_order_from_own_ties};
 ghost use Rattle.std.specs.Cmp.Rules.{comparing};
@@ -38,6 +38,15 @@ impl Model for CompactCharacters {
 }
 
 impl CompactCharacters {
+    /// No characters, which takes no memory.
+    pub fn new() -> CompactCharacters
+        ensures { result ≡ [] }
+    {
+        CompactCharacters {
+            kept: Kept::Inline(ArrayString::new()),
+        }
+    }
+
     /// The characters of a string.
     pub fn from_string(text: String) -> Result<CompactCharacters, AllocError>
         ensures { IfOk result (λ made. made ≡ string_bytes text) }

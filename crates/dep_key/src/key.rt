@@ -3,11 +3,13 @@ ghost use Rattle.std.proofs.Common.{rules};
 ghost use Rattle.std.specs.Cmp.{partial_equiv_from_equiv, eq_by_cmp_equiv, partial_order_from_total};
 ghost use Rattle.std.specs.Cmp.Rules.{comparing};
 ghost use Rattle.std.specs.Ordering.{as_partial_cmp, eq_by_cmp};
-ghost use Rattle.dep_key.specs.KeyOrder.{key_order, key_order_total, has_shape};
+ghost use Rattle.dep_key.specs.KeyOrder.{key_order, key_order_total};
+ghost use Rattle.dep_key.specs.Hashing.{key_writes, same_writes};
 
 use crate::{Aspect, Kind, Name};
 use std::alloc::AllocError;
 use std::cmp::Ordering;
+use std::hash::{Hash, Hasher};
 
 /// What one file provides and others use: the dependency between files goes through equal keys.
 ///
@@ -21,22 +23,6 @@ pub struct Key {
     pub context: Name,
     /// The name, and empty where the key stands for the type of its context.
     pub name: Name,
-}
-
-impl Key {
-    /// Whether the parts are filled that a key of this kind has, and the others are empty.
-    pub fn has_shape(&self) -> bool
-        ensures { result ≡ has_shape self.now }
-    {
-        let has_context = !self.context.as_str().is_empty();
-        let has_name = !self.name.as_str().is_empty();
-        match self.kind {
-            Kind::TopLevel | Kind::DynamicLookup | Kind::ExternalDepend | Kind::SourceFileProvide =>
-                !has_context && has_name,
-            Kind::Nominal | Kind::PotentialMember => has_context && !has_name,
-            Kind::Member => has_context && has_name,
-        }
-    }
 }
 
 impl Clone for Key {
@@ -79,10 +65,18 @@ impl Ord for Key {
 
     fn cmp(&self, other: &Key) -> Ordering {
         let kind = self.kind.number().cmp(&other.kind.number());
+        if kind.is_ne() {
+            return kind;
+        }
         let aspect = self.aspect.number().cmp(&other.aspect.number());
-        kind.then(aspect)
-            .then(self.context.cmp(&other.context))
-            .then(self.name.cmp(&other.name))
+        if aspect.is_ne() {
+            return aspect;
+        }
+        let context = self.context.cmp(&other.context);
+        if context.is_ne() {
+            return context;
+        }
+        self.name.cmp(&other.name)
     }
 }
 
@@ -93,5 +87,18 @@ impl PartialOrd for Key {
 
     fn partial_cmp(&self, other: &Key) -> Option<Ordering> {
         Some(self.cmp(other))
+    }
+}
+
+impl Hash for Key {
+    ghost hash_input = { key_writes };
+
+    ghost respects_eq = { same_writes };
+
+    fn hash<H: Hasher>(&self, state: &mut H) {
+        self.kind.number().hash(state);
+        self.aspect.number().hash(state);
+        self.context.hash(state);
+        self.name.hash(state);
     }
 }

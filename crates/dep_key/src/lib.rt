@@ -1,26 +1,29 @@
-//! The words that all crates of the driver share: paths, names and texts, which contracts see as
-//! lists of bytes, the number of a file, and want of memory.
+//! What all crates of the driver share: paths, names and texts, which contracts see as lists of bytes; keys, and the
+//! graph of what a file provides and uses, with its digests; the number of a file, and want of memory.
 #![tactic(auto)]
 
 mod byte_list;
 mod characters;
 mod compact_characters;
+mod digests;
 mod graph;
 mod key;
+mod key_builders;
+mod key_shapes;
 mod kind;
 mod laws;
 mod lists;
 mod no_memory;
 mod order;
+mod printed;
 mod texts;
 
-pub use byte_list::ByteList;
-pub use characters::Characters;
-pub use compact_characters::CompactCharacters;
+pub use digests::digested;
 pub use graph::{FileGraph, Node, Unsorted};
 pub use key::Key;
+pub use key_builders::key_name;
 pub use kind::{Aspect, Kind};
-pub use laws::keys_are_ordered;
+pub use laws::{keys_are_ordered, moved_keys_are_told};
 pub use lists::{Keys, Nodes};
 pub use no_memory::NoMemory;
 pub use texts::{Name, Path, Text};

@@ -43,26 +43,21 @@ fn texts_are_bytes(rt: HostRuntime) -> Result<(), Fail> {
     Ok(())
 }
 
-fn key(alloc: Global, kind: Kind, name: &str) -> Result<Key, NoMemory> {
-    Ok(Key {
-        kind,
-        aspect: Aspect::Interface,
-        context: Name::from_str(alloc, "")?,
-        name: Name::from_str(alloc, name)?,
-    })
+fn top_level(alloc: Global, name: &str) -> Result<Key, NoMemory> {
+    Ok(Key::top_level(Name::from_str(alloc, name)?))
 }
 
 #[test]
 fn keys_are_ordered_by_kind_and_name(rt: HostRuntime) -> Result<(), Fail> {
     let alloc = rt.alloc();
-    let one = key(alloc, Kind::TopLevel, "one")?;
-    let two = key(alloc, Kind::TopLevel, "two")?;
-    let file = key(alloc, Kind::SourceFileProvide, "a.swift")?;
+    let one = top_level(alloc, "one")?;
+    let two = top_level(alloc, "two")?;
+    let file = Key::source_file(alloc, "a.swift")?;
     assert!(rt; one < two);
     assert!(rt; two < file);
     assert_eq!(rt; one.clone()?, one);
     assert!(rt; one.has_shape());
-    let none = key(alloc, Kind::TopLevel, "")?;
+    let none = top_level(alloc, "")?;
     assert!(rt; !none.has_shape());
     Ok(())
 }
@@ -71,11 +66,11 @@ fn keys_are_ordered_by_kind_and_name(rt: HostRuntime) -> Result<(), Fail> {
 fn a_graph_is_checked(rt: HostRuntime) -> Result<(), Fail> {
     let alloc = rt.alloc();
     let mut uses = Vec::new(alloc);
-    uses.push(key(alloc, Kind::TopLevel, "two")?)?;
-    uses.push(key(alloc, Kind::TopLevel, "one")?)?;
+    uses.push(top_level(alloc, "two")?)?;
+    uses.push(top_level(alloc, "one")?)?;
     let mut nodes = Vec::new(alloc);
     nodes.push(Node {
-        key: key(alloc, Kind::TopLevel, "two")?,
+        key: top_level(alloc, "two")?,
         print: Text::from_slice(alloc, b"")?,
         uses: Keys::from_vec(uses),
     })?;

@@ -1,7 +1,13 @@
-ghost use Rattle.std.specs.Prelude.{◌≡◌, string_bytes, IfOk};
+ghost use Rattle.std.specs.Prelude.{◌≡◌, [], string_bytes, IfOk};
+ghost use Rattle.std.proofs.Common.{rules};
+ghost use Rattle.std.specs.Cmp.Rules.{hashing};
+ghost use Rattle.std.specs.Hash as fed;
 
-use crate::{ByteList, Characters, CompactCharacters};
+use crate::byte_list::ByteList;
+use crate::characters::Characters;
+use crate::compact_characters::CompactCharacters;
 use std::alloc::{AllocError, Global};
+use std::hash::{Hash, Hasher};
 use std::marker::Model;
 
 /// The path of a source file below the project folder, with `/` between components.
@@ -75,6 +81,15 @@ impl Model for Name {
 }
 
 impl Name {
+    /// The empty name, which takes no memory.
+    pub fn new() -> Name
+        ensures { result ≡ [] }
+    {
+        Name {
+            text: CompactCharacters::new(),
+        }
+    }
+
     /// The characters of a string.
     pub fn from_string(text: String) -> Result<Name, AllocError>
         ensures { IfOk result (λ made. made ≡ string_bytes text) }
@@ -96,6 +111,16 @@ impl Name {
         ensures { result.now ≡ self.now }
     {
         self.text.as_str()
+    }
+}
+
+impl Hash for Name {
+    ghost hash_input = { λ name. fed.str name };
+
+    ghost respects_eq = { Prim.search (hashing, rules) };
+
+    fn hash<H: Hasher>(&self, state: &mut H) {
+        self.as_str().hash(state);
     }
 }
 

@@ -1,6 +1,6 @@
 //! What is read from bytes, each in one line.
 
-use anyhow::Error;
+use anyhow::{Error, anyhow};
 use bitstream::{BitReader, Item};
 use dep_key::{FileGraph, Key, Keys, Node};
 use std::alloc::Global;
@@ -28,7 +28,10 @@ fn shown_item(alloc: Global, item: &Item<'_>) -> Result<String, Error> {
         Item::Enter { block } => format!(in alloc; "enter {block};")?,
         Item::Leave => String::from_str(alloc, "leave;")?,
         Item::Rec { code, ops, blob } => {
-            let operands = shown_operands(alloc, ops.as_slice())?;
+            let Ok(operands) = ops.to_vec(alloc) else {
+                return Err(anyhow!("out of memory"));
+            };
+            let operands = shown_operands(alloc, &operands)?;
             let blob = shown_blob(alloc, *blob)?;
             format!(in alloc; "record {code}{operands}{blob};")?
         }
@@ -58,6 +61,22 @@ pub fn items(alloc: Global, bytes: &[u8]) -> Result<String, Error> {
         }
     }
     Ok(shown)
+}
+
+/// How many records a bitstream has up to its end or its first fault.
+pub fn count_records(alloc: Global, bytes: &[u8]) -> usize {
+    let mut reader = BitReader::new(alloc, bytes);
+    let mut records = 0usize;
+    // Each item but the end has at least one bit.
+    for _ in 0..=bytes.len().saturating_mul(8) {
+        match reader.next() {
+            Ok(Item::Rec { .. }) => records = records.saturating_add(1),
+            Ok(Item::End) => return records,
+            Ok(_) => {}
+            Err(_) => return records,
+        }
+    }
+    records
 }
 
 fn shown_key(alloc: Global, word: &str, key: &Key) -> Result<String, Error> {

@@ -28,15 +28,26 @@ usage: dependency_files                          the example: its bytes, and wha
        dependency_files write N U I TIMES        writes that file so many times, and prints the bytes written
        dependency_files read N U I TIMES         writes it once, reads it so many times, and prints what was read
        dependency_files input TIMES              reads the file on standard input so many times
-       dependency_files answers DIGITS..         for each file in hexadecimal digits: the items of its bits behind
-                                                 the signature, and on the next line what it holds";
+       dependency_files records TIMES            counts the records of the bitstream on standard input so many times
+       dependency_files answers                  for each line of hexadecimal digits on standard input, which are a
+                                                 file: the items of its bits behind the signature, and on the next
+                                                 line what it holds";
 
-// Prints the file of the example, and the graph that is read from it.
+// The graph behind the example: as many nodes as a module may have files.
+const LARGE: Shape = Shape {
+    nodes: 2000,
+    uses: 20,
+    identifiers: 1000,
+};
+
+// Prints the file of the example and the graph that is read from it, and then what is read of a large
+// graph's file.
 fn print_example<R: Print + AllocGlobal>(rt: &R) -> Result<(), Error> {
     let alloc = rt.alloc();
     let bytes = bytes_of(alloc, &example::graph(alloc)?)?;
     shown::print_bytes(rt, &bytes)?;
-    shown::print_graph(rt, &graph_in(alloc, &bytes)?)
+    shown::print_graph(rt, &graph_in(alloc, &bytes)?)?;
+    print_counts(rt, &bytes_of(alloc, &large::graph(alloc, LARGE)?)?, 1)
 }
 
 // Prints the file of a large graph as it is.
@@ -87,11 +98,26 @@ fn behind_signature(bytes: &[u8]) -> &[u8] {
     }
 }
 
-// Prints what is read from each file, whose bytes are given as hexadecimal digits.
-fn print_answers<R: Print + AllocGlobal>(rt: &R, files: &[String]) -> Result<(), Error> {
+// Counts the records of the bitstream on standard input so many times, and prints how many there are in
+// all.
+fn print_records<R: Print + Input + AllocGlobal>(rt: &R, times: usize) -> Result<(), Error> {
+    let mut bytes = Vec::new(rt.alloc());
+    rt.reader().read_to_end(&mut bytes)?;
+    let mut total = 0u128;
+    for _ in 0..times {
+        total = total.wrapping_add(answers::count_records(rt.alloc(), &bytes) as u128);
+    }
+    println!(rt; "{} bytes, {} records", bytes.len(), total)?;
+    Ok(())
+}
+
+// Prints what is read from each file on standard input, whose bytes are the hexadecimal digits of a line.
+fn print_answers<R: Print + Input + AllocGlobal>(rt: &R) -> Result<(), Error> {
     let alloc = rt.alloc();
-    for digits in files {
-        let bytes = hex::decode(alloc, digits.as_str())?;
+    let mut text = String::new(alloc);
+    rt.reader().read_to_string(&mut text)?;
+    for digits in text.as_str().lines() {
+        let bytes = hex::decode(alloc, digits)?;
         println!(rt; "{}", answers::items(alloc, behind_signature(&bytes))?)?;
         println!(rt; "{}", answers::graphs(alloc, &bytes)?)?;
     }
@@ -105,13 +131,6 @@ fn words<R: Env + AllocGlobal>(rt: &R) -> io::Result<Vec<String>> {
         words.push(word)?;
     }
     Ok(words)
-}
-
-fn behind_first(words: &[String]) -> &[String] {
-    match words {
-        [_, rest @ ..] => rest,
-        [] => &[],
-    }
 }
 
 fn main(rt: HostRuntime) -> Result<(), Error> {
@@ -131,6 +150,7 @@ fn main(rt: HostRuntime) -> Result<(), Error> {
             print_counts(&rt, &bytes, times)
         }
         Some(Task::Input(times)) => print_input(&rt, times),
-        Some(Task::Answers) => print_answers(&rt, behind_first(&words)),
+        Some(Task::Records(times)) => print_records(&rt, times),
+        Some(Task::Answers) => print_answers(&rt),
     }
 }

@@ -9,6 +9,7 @@ pub enum Task {
     Write(Shape, usize),
     Read(Shape, usize),
     Input(usize),
+    Records(usize),
     Answers,
 }
 
@@ -30,6 +31,7 @@ impl Task {
                 Some(Task::Read(shape, times))
             }
             "input" => Some(Task::Input(times(rest)?)),
+            "records" => Some(Task::Records(times(rest)?)),
             "answers" => Some(Task::Answers),
             _ => None,
         }

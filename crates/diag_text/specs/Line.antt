@@ -1,3 +1,4 @@
+-- The printed line of an error.
 use Rattle.std.specs.Prelude.{ℕ, ◌==◌, List, [], ◌∷◌, ◌++◌, length, codes, decimal, if◌then◌else◌}
 use Rattle.diag_text.specs.declared.diag.Diag.{Diag}
 

@@ -2,8 +2,10 @@
 #![tactic(auto)]
 
 mod diag;
+mod order;
 
 pub use diag::{Diag, line, lines};
+pub use order::{in_order, printed_lines};
 
 #[cfg(test)]
 mod tests {
@@ -36,6 +38,22 @@ mod tests {
         assert_eq!(rt;
             both.as_slice(),
             b"sub/c.swift:1:20: error: form not built yet\nerror: form not built yet\n".as_slice()
+        );
+        Ok(())
+    }
+
+    #[test]
+    fn lines_are_ordered_and_equal_ones_printed_once(rt: HostRuntime) -> Result<(), Fail> {
+        let alloc = rt.alloc();
+        let mut diags = Vec::new(alloc);
+        diags.push(error_at(alloc, "b.swift", 1, 1)?)?;
+        diags.push(error_at(alloc, "a.swift", 10, 2)?)?;
+        diags.push(error_at(alloc, "b.swift", 1, 1)?)?;
+        diags.push(error_at(alloc, "a.swift", 2, 10)?)?;
+        let printed = printed_lines(alloc, diags)?;
+        assert_eq!(rt;
+            printed.as_slice(),
+            b"a.swift:2:10: error: form not built yet\na.swift:10:2: error: form not built yet\nb.swift:1:1: error: form not built yet\n".as_slice()
         );
         Ok(())
     }

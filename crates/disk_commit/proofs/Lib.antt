@@ -1,2 +1,3 @@
 pub mod Folder
 pub mod Names
+pub mod RunLemmas

@@ -1,21 +1,20 @@
 -- Runs of writes and removals, and the folder that they leave.
-use Rattle.std.specs.Prelude.{ℕ, Bool, false, not, List, [], ◌∷◌, filter, nat_eq}
+use Rattle.std.specs.Prelude.{ℕ, Bool, not, List, [], ◌∷◌, filter, nat_eq}
 use Rattle.std.specs.List.{list_any}
 use Rattle.std.specs.Cmp.Lexicographic.{pointwise}
 use Rattle.std.specs.FinMap.{insert, empty}
-use Rattle.drv_outside.specs.Told.{Folder, Told, written, removed, listed}
-use Rattle.drv_outside.specs.declared.words.Call.TheVariants.{Sync}
+use Rattle.drv_outside.specs.Moments.{all_done}
+use Rattle.drv_outside.specs.TreeState.{Folder, TreeState, synced}
+use Rattle.disk_commit.specs.Steps.{removals, writes}
 use Rattle.disk_commit.specs.declared.files.File.{File}
 
 -- the tree once these files are written, in order
-abbrev pub all_written : List File → Told → Told
-all_written [] t = t
-all_written (file ∷ files) t = all_written files (written file.name file.bytes t)
+abbrev pub all_written : List File → TreeState → TreeState
+all_written files = all_done (writes files)
 
 -- the tree once these names are removed, in order
-abbrev pub all_removed : List (List ℕ) → Told → Told
-all_removed [] t = t
-all_removed (name ∷ names) t = all_removed names (removed name t)
+abbrev pub all_removed : List (List ℕ) → TreeState → TreeState
+all_removed names = all_done (removals names)
 
 -- whether a file has this name
 abbrev pub is_named : List File → List ℕ → Bool
@@ -26,12 +25,12 @@ abbrev pub unwanted : List File → List (List ℕ) → List (List ℕ)
 unwanted files names = filter (λ name. not (is_named files name)) names
 
 -- the tree once these names are removed, these files are written and all is synced
-abbrev pub replaced : List (List ℕ) → List File → Told → Told
-replaced removals files t = listed Sync false (all_written files (all_removed removals t))
+abbrev pub replaced : List (List ℕ) → List File → TreeState → TreeState
+replaced names files t = synced (all_written files (all_removed names t))
 
 -- the tree once everything but these files is removed, they are written and all is synced
-abbrev pub settled : List (List ℕ) → List File → Told → Told
-settled names files t = replaced (unwanted files names) files t
+abbrev pub exactly : List (List ℕ) → List File → TreeState → TreeState
+exactly names files t = replaced (unwanted files names) files t
 
 -- a folder with these files added, in order
 abbrev pub with_files : List File → Folder → Folder

@@ -3,11 +3,14 @@ ghost use Rattle.std.specs.BTreeSet as sets;
 ghost use Rattle.std.specs.FinMap as finite;
 ghost use Rattle.std.specs.Ordering.{nat_cmp};
 ghost use Rattle.std.specs.Cmp.Lexicographic.{slice_cmp};
-ghost use Rattle.drv_outside.specs.Faults.{Rose};
+ghost use Rattle.drv_outside.specs.Faults.{CountRose};
+ghost use Rattle.drv_outside.specs.Moments.{Stops, all_done};
 ghost use Rattle.drv_outside.specs.Plain.{is_plain_name};
-ghost use Rattle.drv_outside.specs.Where.{WhereTold};
-ghost use Rattle.drv_outside.specs.declared.words.TreeEnd.{TreeEnd};
-ghost use Rattle.disk_commit.specs.Files.{all_written, all_removed, is_named, replaced, unwanted, settled, folder_of};
+ghost use Rattle.disk_images.specs.Laws.{committing, withdrawal};
+ghost use Rattle.drv_outside.specs.IfObserved.{IfObserved};
+ghost use Rattle.drv_outside.specs.declared.types.TreeEnd.{TreeEnd};
+ghost use Rattle.disk_commit.specs.Files.{is_named, replaced, unwanted, exactly, folder_of};
+ghost use Rattle.disk_commit.specs.Steps.{removals, replacing, writes};
 
 use drv_outside::{Fault, Name, Text, Tree, TreeEnd};
 use std::alloc::{AllocError, Global};
@@ -20,12 +23,43 @@ pub struct File {
     pub bytes: Text,
 }
 
+/// Shuts the gate, and settles this. From then on a crash leaves it shut, until it is written again.
+pub fn withdraw<T: Tree>(tree: &mut T, gate: &str) -> Result<(), Fault>
+    requires plain { IsTrue (is_plain_name gate.now) }
+    ensures done { OnOk result (T.observed tree.new ≡ option_map (all_done (withdrawal gate.now)) (T.observed tree.old)) }
+    ensures stops { OnErr result (Stops (withdrawal gate.now) (T.observed tree.old) (T.observed tree.new)) }
+    ensures count { T.faults tree.old ≤ T.faults tree.new }
+    ensures ok_count { OnOk result (T.faults tree.new ≡ T.faults tree.old) }
+    ensures cause { OnErr result (CountRose (T.faults tree.old) (T.faults tree.new)) }
+{
+    tree.write_file(gate, &[0])?;
+    tree.sync()?;
+    Ok(())
+}
+
+/// Settles all that was placed, and then opens the gate, and settles this.
+pub fn commit<T: Tree>(tree: &mut T, gate: &str) -> Result<(), Fault>
+    requires plain { IsTrue (is_plain_name gate.now) }
+    ensures done { OnOk result (T.observed tree.new ≡ option_map (all_done (committing gate.now)) (T.observed tree.old)) }
+    ensures stops { OnErr result (Stops (committing gate.now) (T.observed tree.old) (T.observed tree.new)) }
+    ensures count { T.faults tree.old ≤ T.faults tree.new }
+    ensures ok_count { OnOk result (T.faults tree.new ≡ T.faults tree.old) }
+    ensures cause { OnErr result (CountRose (T.faults tree.old) (T.faults tree.new)) }
+{
+    tree.sync()?;
+    tree.write_file(gate, &[1])?;
+    tree.sync()?;
+    Ok(())
+}
+
 /// Writes these files, in order. After an `Err` those before the one that failed are written.
 pub fn place<T: Tree>(tree: &mut T, files: &[File]) -> Result<(), Fault>
     requires plain { All (λ file. IsTrue (is_plain_name file.name)) files.now }
-    ensures placed { OnOk result (T.told tree.new ≡ option_map (all_written files.now) (T.told tree.old)) }
+    ensures placed { OnOk result (T.observed tree.new ≡ option_map (all_done (writes files.now)) (T.observed tree.old)) }
+    ensures stops { OnErr result (Stops (writes files.now) (T.observed tree.old) (T.observed tree.new)) }
     ensures count { T.faults tree.old ≤ T.faults tree.new }
-    ensures cause { OnErr result (Rose (T.faults tree.old) (T.faults tree.new)) }
+    ensures ok_count { OnOk result (T.faults tree.new ≡ T.faults tree.old) }
+    ensures cause { OnErr result (CountRose (T.faults tree.old) (T.faults tree.new)) }
 {
     for file in files {
         tree.write_file(file.name.as_str(), file.bytes.as_slice())?;
@@ -36,9 +70,11 @@ pub fn place<T: Tree>(tree: &mut T, files: &[File]) -> Result<(), Fault>
 /// Removes these names, in order. After an `Err` those before the one that failed are removed.
 pub fn sweep<T: Tree>(tree: &mut T, names: &[Name]) -> Result<(), Fault>
     requires plain { All (λ name. IsTrue (is_plain_name name)) names.now }
-    ensures swept { OnOk result (T.told tree.new ≡ option_map (all_removed names.now) (T.told tree.old)) }
+    ensures swept { OnOk result (T.observed tree.new ≡ option_map (all_done (removals names.now)) (T.observed tree.old)) }
+    ensures stops { OnErr result (Stops (removals names.now) (T.observed tree.old) (T.observed tree.new)) }
     ensures count { T.faults tree.old ≤ T.faults tree.new }
-    ensures cause { OnErr result (Rose (T.faults tree.old) (T.faults tree.new)) }
+    ensures ok_count { OnOk result (T.faults tree.new ≡ T.faults tree.old) }
+    ensures cause { OnErr result (CountRose (T.faults tree.old) (T.faults tree.new)) }
 {
     for name in names {
         tree.remove_file(name.as_str())?;
@@ -77,9 +113,11 @@ pub fn unwanted(alloc: Global, names: &[Name], files: &[File]) -> Result<Vec<Nam
 pub fn replace<T: Tree>(tree: &mut T, removals: &[Name], files: &[File]) -> Result<(), Fault>
     requires plain_names { All (λ name. IsTrue (is_plain_name name)) removals.now }
     requires plain_files { All (λ file. IsTrue (is_plain_name file.name)) files.now }
-    ensures replaced { OnOk result (T.told tree.new ≡ option_map (replaced removals.now files.now) (T.told tree.old)) }
+    ensures replaced { OnOk result (T.observed tree.new ≡ option_map (replaced removals.now files.now) (T.observed tree.old)) }
+    ensures stops { OnErr result (Stops (replacing removals.now files.now) (T.observed tree.old) (T.observed tree.new)) }
     ensures count { T.faults tree.old ≤ T.faults tree.new }
-    ensures cause { OnErr result (Rose (T.faults tree.old) (T.faults tree.new)) }
+    ensures ok_count { OnOk result (T.faults tree.new ≡ T.faults tree.old) }
+    ensures cause { OnErr result (CountRose (T.faults tree.old) (T.faults tree.new)) }
 {
     sweep(tree, removals)?;
     place(tree, files)?;
@@ -91,7 +129,7 @@ pub fn replace<T: Tree>(tree: &mut T, removals: &[Name], files: &[File]) -> Resu
 /// `names` are all names of the build folder, these files alone are left in it.
 ///
 /// It takes memory only before its first call. `NoMemory` says that no call was made.
-pub fn settle<T: Tree>(
+pub fn leave_exactly<T: Tree>(
     alloc: Global,
     tree: &mut T,
     names: &[Name],
@@ -99,13 +137,16 @@ pub fn settle<T: Tree>(
 ) -> Result<(), TreeEnd>
     requires plain_names { All (λ name. IsTrue (is_plain_name name)) names.now }
     requires plain_files { All (λ file. IsTrue (is_plain_name file.name)) files.now }
-    ensures settled { OnOk result (T.told tree.new ≡ option_map (settled names.now files.now) (T.told tree.old)) }
+    ensures exactly { OnOk result (T.observed tree.new ≡ option_map (exactly names.now files.now) (T.observed tree.old)) }
     // Where these are all names of the folder, these files alone are left.
-    ensures folder { OnOk result (IfSome (T.told tree.old) (λ t. names.now ≡ finite.keys t.folder)
-        → WhereTold (T.told tree.old) (T.told tree.new) (λ t u. u.folder ≡ folder_of files.now)) }
-    ensures no_call { IsErrOf result TreeEnd.NoMemory → T.told tree.new ≡ T.told tree.old }
+    ensures folder { OnOk result (IfSome (T.observed tree.old) (λ t. names.now ≡ finite.keys t.folder)
+        → IfObserved (T.observed tree.old) (T.observed tree.new) (λ t u. u.folder ≡ folder_of files.now)) }
+    ensures no_call { IsErrOf result TreeEnd.NoMemory → T.observed tree.new ≡ T.observed tree.old }
+    ensures stops { IsErrOf result TreeEnd.Failed → Stops (replacing (unwanted files.now names.now) files.now) (T.observed tree.old) (T.observed tree.new) }
     ensures count { T.faults tree.old ≤ T.faults tree.new }
-    ensures cause { IsErrOf result TreeEnd.Failed → Rose (T.faults tree.old) (T.faults tree.new) }
+    ensures ok_count { OnOk result (T.faults tree.new ≡ T.faults tree.old) }
+    ensures no_memory_count { IsErrOf result TreeEnd.NoMemory → T.faults tree.new ≡ T.faults tree.old }
+    ensures cause { IsErrOf result TreeEnd.Failed → CountRose (T.faults tree.old) (T.faults tree.new) }
 {
     let unwanted = unwanted(alloc, names, files)?;
     match replace(tree, &unwanted, files) {

@@ -1,5 +1,9 @@
-pub mod WordLemmas
+pub mod CommandLemmas
 pub mod ParsedLemmas
 pub mod NameLemmas
 pub mod OutcomeLemmas
+pub mod CallLemmas
 pub mod BuildLemmas
+pub mod DrivenLemmas
+pub mod TreeLemmas
+pub mod CleanLemmas

@@ -13,7 +13,7 @@ use Rattle.std.proofs.lemmas.Str.{IsUtf8-from_ascii}
 use Rattle.std.proofs.lemmas.Str.Ascii.{IsAscii-nil, IsAscii-cons}
 use Rattle.drv_outside.specs.Plain.{is_name_byte, is_path_byte, are_name_bytes, is_plain_name, is_plain_path, swift_ending, full_stop}
 use Rattle.driver_cmd.specs.Clean.{without_slash, object_name}
-use Rattle.driver_cmd.proofs.WordLemmas.{front, back, both}
+use Rattle.driver_cmd.proofs.CommandLemmas.{front, back, both}
 
 -- what two lists share in length, where they are equal element by element
 pointwise_long : (xs ys : List ℕ) → pointwise nat_eq xs ys ≡ true → length xs ≤ length ys

@@ -7,15 +7,16 @@ use Rattle.std.specs.Prelude.{nat_le}
 use Rattle.std.specs.List.{All, list_all, filter}
 use Rattle.std.proofs.lemmas.List.Elements.{All-nil, All-cons}
 use Rattle.drv_outside.specs.Plain.{is_plain_path}
-use Rattle.drv_outside.specs.Told.{Told, bytes_at}
+use Rattle.drv_outside.specs.TreeState.{TreeState, bytes_at}
 use Rattle.drv_outside.specs.Reads.{OnlyReads}
-use Rattle.drv_outside.specs.declared.words.Entry.{Entry}
-use Rattle.drv_outside.specs.declared.words.Source.{Source}
+use Rattle.drv_outside.specs.declared.types.Entry.{Entry}
+use Rattle.drv_outside.specs.declared.types.Source.{Source}
 use Rattle.integer_globals.specs.Grammar.{IsTreeOf}
 use Rattle.integer_globals.specs.declared.trees.FileTree.{FileTree}
 use Rattle.driver_cmd.specs.Clean.{not_plain_error, not_plain_errors, too_many_error, listing_errors, trees_of}
-use Rattle.driver_cmd.proofs.WordLemmas.{front, back}
+use Rattle.driver_cmd.proofs.CommandLemmas.{front, back}
 use Rattle.driver_cmd.specs.Parsed.{IsParsed, AreParsed, parsed_path, entry_paths}
+use Rattle.driver_cmd.specs.declared.listing.TheConstants.{MOST_SOURCES}
 use Rattle.driver_cmd.specs.declared.parsed.Parsed.{Parsed}
 use Rattle.driver_cmd.specs.declared.parsed.Parsed.TheVariants.{Tree, NoTree}
 
@@ -33,20 +34,20 @@ parsed_whole path text (Tree file) p = (p.0, subst (λ bytes. IsTreeOf file.decl
 parsed_whole path text (NoTree at) p = (p.0, λ declarations is. p.1 declarations (subst (λ bytes. IsTreeOf declarations bytes) (sym (all_taken text is.0)) is))
 
 -- calls that read leave the sources
-pub sources_stay : (Q : List Source → Type 0) (before after : Option Told) → OnlyReads before after → IfSome after (λ t. Q t.sources) → IfSome before (λ t. Q t.sources)
+pub sources_stay : (Q : List Source → Type 0) (before after : Option TreeState) → OnlyReads before after → IfSome after (λ t. Q t.sources) → IfSome before (λ t. Q t.sources)
 sources_stay Q None after reads so = tt
 sources_stay Q (Some t) after reads so = subst (λ o. IfSome o (λ u. Q u.sources)) reads.is so
 
 -- nothing is read yet
-pub no_files : (entries : List Entry) (files : List Parsed) (told : Option Told) → files ≡ []
-    → IfSome told (λ t. (rest : List Parsed) → AreParsed t.sources (entry_paths entries) rest → AreParsed t.sources (entry_paths entries) (files ++ rest))
+pub no_files : (entries : List Entry) (files : List Parsed) (observed : Option TreeState) → files ≡ []
+    → IfSome observed (λ t. (rest : List Parsed) → AreParsed t.sources (entry_paths entries) rest → AreParsed t.sources (entry_paths entries) (files ++ rest))
 no_files entries files None none = tt
 no_files entries files (Some t) none = λ rest is. rw none is
 
 -- what a source was read to
-pub parsed_source : (path asked copy text bytes : List ℕ) (file : Parsed) (told : Option Told) → asked ≡ path → copy ≡ path → bytes ≡ text
-    → IfSome told (λ t. text ≡ take 262145 (bytes_at asked t.sources)) → IsParsed copy bytes file
-    → IfSome told (λ t. IsParsed path (bytes_at path t.sources) file)
+pub parsed_source : (path asked copy text bytes : List ℕ) (file : Parsed) (observed : Option TreeState) → asked ≡ path → copy ≡ path → bytes ≡ text
+    → IfSome observed (λ t. text ≡ take 262145 (bytes_at asked t.sources)) → IsParsed copy bytes file
+    → IfSome observed (λ t. IsParsed path (bytes_at path t.sources) file)
 parsed_source path asked copy text bytes file None was same is read parsed = tt
 parsed_source path asked copy text bytes file (Some t) was same is read parsed =
     let whole_text : bytes ≡ take 262145 (bytes_at path t.sources) = is ∙ read ∙ ap (λ p. take 262145 (bytes_at p t.sources)) was in
@@ -57,11 +58,11 @@ pub item_first : {X : Type 0} (xs : List X) (i : ℕ) (x : X) → i < length xs 
 item_first xs i x h is = rw add-one (drop-cons xs i x h ∙ ap (λ y. y ∷ drop (suc i) xs) is)
 
 -- one entry more is read
-pub next_file : (entries : List Entry) (i : ℕ) (entry : Entry) (files : List Parsed) (file : Parsed) (more : List Parsed) (told : Option Told)
+pub next_file : (entries : List Entry) (i : ℕ) (entry : Entry) (files : List Parsed) (file : Parsed) (more : List Parsed) (observed : Option TreeState)
     → drop i entries ≡ entry ∷ drop (i + 1) entries → more ≡ files ++ file ∷ []
-    → IfSome told (λ t. (rest : List Parsed) → AreParsed t.sources (entry_paths (drop i entries)) rest → AreParsed t.sources (entry_paths entries) (files ++ rest))
-    → IfSome told (λ t. IsParsed entry.path (bytes_at entry.path t.sources) file)
-    → IfSome told (λ t. (rest : List Parsed) → AreParsed t.sources (entry_paths (drop (i + 1) entries)) rest → AreParsed t.sources (entry_paths entries) (more ++ rest))
+    → IfSome observed (λ t. (rest : List Parsed) → AreParsed t.sources (entry_paths (drop i entries)) rest → AreParsed t.sources (entry_paths entries) (files ++ rest))
+    → IfSome observed (λ t. IsParsed entry.path (bytes_at entry.path t.sources) file)
+    → IfSome observed (λ t. (rest : List Parsed) → AreParsed t.sources (entry_paths (drop (i + 1) entries)) rest → AreParsed t.sources (entry_paths entries) (more ++ rest))
 next_file entries i entry files file more None here pushed so_far parsed = tt
 next_file entries i entry files file more (Some t) here pushed so_far parsed = λ rest after.
     let whole : AreParsed t.sources (entry_paths (drop i entries)) (file ∷ rest) = subst (λ es. AreParsed t.sources (entry_paths es) (file ∷ rest)) (sym here) (parsed, after) in
@@ -81,9 +82,9 @@ next_path entries i entry files file more here pushed path so_far =
     ∙ so_far
 
 -- nothing is left to read
-pub all_files : (entries : List Entry) (i : ℕ) (files : List Parsed) (told : Option Told) → drop i entries ≡ []
-    → IfSome told (λ t. (rest : List Parsed) → AreParsed t.sources (entry_paths (drop i entries)) rest → AreParsed t.sources (entry_paths entries) (files ++ rest))
-    → IfSome told (λ t. AreParsed t.sources (entry_paths entries) files)
+pub all_files : (entries : List Entry) (i : ℕ) (files : List Parsed) (observed : Option TreeState) → drop i entries ≡ []
+    → IfSome observed (λ t. (rest : List Parsed) → AreParsed t.sources (entry_paths (drop i entries)) rest → AreParsed t.sources (entry_paths entries) (files ++ rest))
+    → IfSome observed (λ t. AreParsed t.sources (entry_paths entries) files)
 all_files entries i files None done so_far = tt
 all_files entries i files (Some t) done so_far =
     subst (λ fs. AreParsed t.sources (entry_paths entries) fs) (append-nil files) (so_far [] (subst (λ es. AreParsed t.sources (entry_paths es) []) (sym done) tt))
@@ -98,7 +99,7 @@ all_plain (path ∷ paths) none =
 -- where the list of paths has no errors, each path is plain
 pub listed_plain : (paths : List (List ℕ)) → listing_errors paths ≡ [] → list_all is_plain_path paths ≡ true
 listed_plain paths none =
-    (elim (nat_le (length paths) 2000) as (λ b. cond b (not_plain_errors paths) (too_many_error (length paths) ∷ []) ≡ [] → list_all is_plain_path paths ≡ true)
+    (elim (nat_le (length paths) MOST_SOURCES) as (λ b. cond b (not_plain_errors paths) (too_many_error (length paths) ∷ []) ≡ [] → list_all is_plain_path paths ≡ true)
     [ true ↦ λ none. all_plain paths none | false ↦ λ none. cc ]) none
 
 -- trees of files at plain paths stand at plain paths

@@ -6,13 +6,15 @@ use Rattle.disk_commit.specs.Files.{folder_of}
 use Rattle.disk_commit.specs.declared.files.File.{File}
 use Rattle.drv_outside.specs.Plain.{is_plain_path}
 use Rattle.drv_outside.specs.Reads.{OnlyReads}
-use Rattle.drv_outside.specs.Told.{Told, Folder}
-use Rattle.drv_outside.specs.declared.words.Source.{Source}
+use Rattle.drv_outside.specs.TreeState.{TreeState, Folder}
+use Rattle.drv_outside.specs.declared.types.Source.{Source}
 use Rattle.integer_globals.specs.declared.trees.FileTree.{FileTree}
 use Rattle.integer_module.specs.Outcomes.{outcome_of}
 use Rattle.integer_module.specs.declared.outcome.Outcome.{Outcome}
 use Rattle.integer_module.specs.declared.outcome.Outcome.TheVariants.{Object, Errors}
+use Rattle.driver_cmd.specs.Calls.{PassedCalls, AreSynced}
 use Rattle.driver_cmd.specs.Parsed.{AreParsed, source_paths}
+use Rattle.driver_cmd.specs.declared.listing.TheConstants.{MOST_SOURCES}
 use Rattle.driver_cmd.specs.declared.parsed.Parsed.{Parsed}
 use Rattle.driver_cmd.specs.declared.parsed.Parsed.TheVariants.{Tree, NoTree}
 
@@ -24,14 +26,14 @@ abbrev pub not_plain_error : List ℕ → Diag
 not_plain_error path = unplaced (codes "'" ++ path ++ codes "' is not a plain path")
 
 abbrev pub too_many_error : ℕ → Diag
-too_many_error count = unplaced (decimal count ++ codes " source files, at most 2000")
+too_many_error count = unplaced (decimal count ++ codes " source files, at most " ++ decimal MOST_SOURCES)
 
 abbrev pub not_plain_errors : List (List ℕ) → List Diag
 not_plain_errors paths = map not_plain_error (filter (λ path. not (is_plain_path path)) paths)
 
--- The errors of the list of sources: more than 2,000 of them, else each path that isn't plain.
+-- The errors of the list of sources: more than `MOST_SOURCES` of them, else each path that isn't plain.
 abbrev pub listing_errors : List (List ℕ) → List Diag
-listing_errors paths = if nat_le (length paths) 2000 then not_plain_errors paths else too_many_error (length paths) ∷ []
+listing_errors paths = if nat_le (length paths) MOST_SOURCES then not_plain_errors paths else too_many_error (length paths) ∷ []
 
 -- The errors of files without a tree.
 abbrev pub form_error : Parsed → List Diag
@@ -112,21 +114,26 @@ pub data IsClean (sources : List Source) (clean : Clean) : Type 0 where
   built : (trees : List FileTree) → HaveTrees sources trees → clean ≡ build_of trees → IsClean sources clean
 
 -- The clean build of the sources is so.
-pub record CleanIs (sources : List Source) (P : Clean → Type 0) : Type 0 where
+pub record ForCleanBuild (sources : List Source) (P : Clean → Type 0) : Type 0 where
   pub clean : Clean
   pub is : IsClean sources clean
   pub so : P clean
 
 -- the build folder after a clean build, where it was this before
-abbrev pub left_in : Folder → Option Folder → Folder
-left_in before None = before
-left_in before (Some folder) = folder
+abbrev pub folder_after : Folder → Option Folder → Folder
+folder_after before None = before
+folder_after before (Some folder) = folder
 
--- A tree that had the sources of t, with u after it: the clean build of the sources has these lines,
--- u has its folder, and where it leaves the folder as it was, calls read alone.
-pub record Leaves (lines : List ℕ) (before after : Option Told) (t u : Told) : Type 0 where
+-- The build folder of `u` is the one that the clean build leaves, or that of `t` where it leaves it as it was.
+abbrev pub IsLeftBy : Clean → TreeState → TreeState → Type 0
+IsLeftBy clean t u = u.folder ≡ folder_after t.folder clean.folder
+
+-- A tree that had the sources of `t`, with `u` after it: the clean build of the sources has these lines and leaves the
+-- build folder, where it leaves it as it was, calls read alone, and no call failed or left changes without a sync.
+pub record LeavesCleanBuild (lines : List ℕ) (before after : Option TreeState) (t u : TreeState) : Type 0 where
   pub clean : Clean
   pub is : IsClean t.sources clean
   pub has_lines : clean.lines ≡ lines
-  pub folder : u.folder ≡ left_in t.folder clean.folder
+  pub folder : IsLeftBy clean t u
   pub untouched : clean.folder ≡ None → OnlyReads before after
+  pub synced : PassedCalls AreSynced t u

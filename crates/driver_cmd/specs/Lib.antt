@@ -1,5 +1,7 @@
-pub mod Words
-pub mod Parsed
+pub mod Driven
+pub mod Command
 pub mod Clean
-pub mod Project
-pub mod Ends
+pub mod Parsed
+pub mod Calls
+pub mod ReadSources
+pub mod Printed

@@ -1,8 +1,8 @@
 -- The trees of the sources.
 use Rattle.std.specs.Prelude.{◌≡◌, ℕ, List, [], ◌∷◌, map}
-use Rattle.drv_outside.specs.Told.{bytes_at}
-use Rattle.drv_outside.specs.declared.words.Entry.{Entry}
-use Rattle.drv_outside.specs.declared.words.Source.{Source}
+use Rattle.drv_outside.specs.TreeState.{bytes_at}
+use Rattle.drv_outside.specs.declared.types.Entry.{Entry}
+use Rattle.drv_outside.specs.declared.types.Source.{Source}
 use Rattle.integer_globals.specs.Grammar.{IsTreeOf}
 use Rattle.integer_globals.specs.declared.trees.Declaration.{Declaration}
 use Rattle.driver_cmd.specs.declared.parsed.Parsed.{Parsed}

@@ -1,21 +1,23 @@
-ghost use Rattle.std.specs.Prelude.{◌≡◌, ◌≢◌, ◌≤◌, ◌⊎◌, [], ◌++◌, All, IsTrue, None, IfOk, IfErr, IfSome, OnOk, option_map};
-ghost use Rattle.drv_outside.specs.Faults.{Rose};
+ghost use Rattle.std.specs.Prelude.{◌≡◌, ◌⊎◌, ℕ, List, All, IsOk, IsTrue, IfOk, IfErr, IfSome, OnOk};
+ghost use Rattle.drv_outside.specs.Faults.{CountRose};
 ghost use Rattle.drv_outside.specs.Plain.{is_plain_path};
 ghost use Rattle.drv_outside.specs.Reads.{OnlyReads};
-ghost use Rattle.drv_outside.specs.Sink.{PutsSome};
-ghost use Rattle.drv_outside.specs.Where.{WhereTold};
+ghost use Rattle.drv_outside.specs.IfObserved.{IfObserved};
 ghost use Rattle.diag_text.specs.Line.{lines_of};
 ghost use Rattle.disk_commit.specs.Files.{folder_of};
 ghost use Rattle.integer_globals.specs.declared.trees.FileTree.{FileTree};
-ghost use Rattle.driver_cmd.specs.Clean.{CleanIs, Leaves, left_in, module_errors, module_objects};
-ghost use Rattle.driver_cmd.specs.Ends.{ends, EndsEarly, PutsNothing};
-ghost use Rattle.driver_cmd.specs.Project.{IsProject, HasPlainPaths};
+ghost use Rattle.driver_cmd.specs.Calls.{AreSynced, PassedCalls, ReadsPass};
+ghost use Rattle.driver_cmd.specs.Clean.{LeavesCleanBuild, module_errors, module_objects};
+ghost use Rattle.driver_cmd.specs.Command.{request_of};
+ghost use Rattle.driver_cmd.specs.Driven.{Driven, outside};
+ghost use Rattle.driver_cmd.specs.Printed.{Printed};
+ghost use Rattle.driver_cmd.specs.ReadSources.{IsReadFrom, HasPlainPaths};
 
 use crate::listing::listing_errors;
 use crate::outputs::{error_lines, objects};
 use crate::parsed::{form_errors, read_files, trees};
 use diag_text::{Diag, lines};
-use disk_commit::{File, settle};
+use disk_commit::{File, leave_exactly};
 use drv_outside::{NoMemory, Sink, Status, Tree};
 use integer_globals::FileTree;
 use integer_module::check_module;
@@ -23,7 +25,7 @@ use std::alloc::Global;
 
 /// What was read of a project.
 #[derive(Drop)]
-enum Project {
+enum ReadSources {
     /// The errors of its list of sources, or of its files without a tree.
     Refused(Vec<Diag>),
 
@@ -39,26 +41,28 @@ struct Outputs {
 }
 
 // Reads the sources, as far as there are no errors in their list.
-fn read_project<T: Tree>(alloc: Global, tree: &mut T) -> Result<Project, Status>
-    ensures project { IfOk result (λ project. IfSome (T.told tree.old) (λ t. IsProject t.sources project)) }
+fn read_project<T: Tree>(alloc: Global, tree: &mut T) -> Result<ReadSources, Status>
+    ensures project { IfOk result (λ project. IfSome (T.observed tree.old) (λ t. IsReadFrom t.sources project)) }
     ensures plain { IfOk result HasPlainPaths }
-    ensures reads { OnlyReads (T.told tree.old) (T.told tree.new) }
-    ensures count { T.faults tree.old ≤ T.faults tree.new }
-    ensures tree_fault { IfErr result (λ status. status ≡ Status.TreeFault → Rose (T.faults tree.old) (T.faults tree.new)) }
+    ensures passed { OnOk result (ReadsPass (T.observed tree.old) (T.observed tree.new)) }
+    ensures reads { OnlyReads (T.observed tree.old) (T.observed tree.new) }
+    ensures ok_count { OnOk result (T.faults tree.new ≡ T.faults tree.old) }
+    ensures no_memory_count { IfErr result (λ status. status ≡ Status.NoMemory → T.faults tree.new ≡ T.faults tree.old) }
+    ensures tree_fault { IfErr result (λ status. status ≡ Status.TreeFault → CountRose (T.faults tree.old) (T.faults tree.new)) }
     ensures ends { IfErr result (λ status. (status ≡ Status.TreeFault) ⊎ (status ≡ Status.NoMemory)) }
 {
     let entries = tree.list(alloc)?;
     let errors = listing_errors(alloc, &entries)?;
     if !errors.is_empty() {
-        return Ok(Project::Refused(errors));
+        return Ok(ReadSources::Refused(errors));
     }
     let files = read_files(alloc, tree, &entries)?;
     let errors = form_errors(alloc, &files)?;
     if !errors.is_empty() {
-        return Ok(Project::Refused(errors));
+        return Ok(ReadSources::Refused(errors));
     }
     let files = trees(alloc, files)?;
-    Ok(Project::Trees(files))
+    Ok(ReadSources::Trees(files))
 }
 
 // Makes all that a build of these files writes and prints.
@@ -77,15 +81,17 @@ fn make_outputs(alloc: Global, files: &[FileTree]) -> Result<Outputs, NoMemory>
 fn build_module<T: Tree>(alloc: Global, tree: &mut T, files: &[FileTree]) -> Result<Vec<u8>, Status>
     requires { All (λ (file : FileTree). IsTrue (is_plain_path file.path)) files.now }
     ensures lines { IfOk result (λ lines. lines.items ≡ lines_of (module_errors files.now)) }
-    ensures folder { OnOk result (WhereTold (T.told tree.old) (T.told tree.new) (λ t u. u.folder ≡ folder_of (module_objects files.now))) }
-    ensures early { IfErr result (λ status. status ≡ Status.NoMemory → OnlyReads (T.told tree.old) (T.told tree.new)) }
-    ensures count { T.faults tree.old ≤ T.faults tree.new }
-    ensures tree_fault { IfErr result (λ status. status ≡ Status.TreeFault → Rose (T.faults tree.old) (T.faults tree.new)) }
+    ensures folder { OnOk result (IfObserved (T.observed tree.old) (T.observed tree.new) (λ t u. u.folder ≡ folder_of (module_objects files.now))) }
+    ensures synced { OnOk result (IfObserved (T.observed tree.old) (T.observed tree.new) (PassedCalls AreSynced)) }
+    ensures early { IfErr result (λ status. status ≡ Status.NoMemory → OnlyReads (T.observed tree.old) (T.observed tree.new)) }
+    ensures ok_count { OnOk result (T.faults tree.new ≡ T.faults tree.old) }
+    ensures no_memory_count { IfErr result (λ status. status ≡ Status.NoMemory → T.faults tree.new ≡ T.faults tree.old) }
+    ensures tree_fault { IfErr result (λ status. status ≡ Status.TreeFault → CountRose (T.faults tree.old) (T.faults tree.new)) }
     ensures ends { IfErr result (λ status. (status ≡ Status.TreeFault) ⊎ (status ≡ Status.NoMemory)) }
 {
     let Outputs { objects, lines } = make_outputs(alloc, files)?;
     let names = tree.names(alloc)?;
-    match settle(alloc, tree, &names, &objects) {
+    match leave_exactly(alloc, tree, &names, &objects) {
         Ok(()) => Ok(lines),
         Err(end) => Err(Status::from(end)),
     }
@@ -93,53 +99,47 @@ fn build_module<T: Tree>(alloc: Global, tree: &mut T, files: &[FileTree]) -> Res
 
 // Leaves the clean build of the sources in the build folder, and answers with its error lines.
 fn build_project<T: Tree>(alloc: Global, tree: &mut T) -> Result<Vec<u8>, Status>
-    ensures clean { IfOk result (λ lines. WhereTold (T.told tree.old) (T.told tree.new) (Leaves lines.items (T.told tree.old) (T.told tree.new))) }
-    ensures early { IfErr result (λ status. status ≡ Status.NoMemory → OnlyReads (T.told tree.old) (T.told tree.new)) }
-    ensures count { T.faults tree.old ≤ T.faults tree.new }
-    ensures tree_fault { IfErr result (λ status. status ≡ Status.TreeFault → Rose (T.faults tree.old) (T.faults tree.new)) }
+    ensures clean { IfOk result (λ lines. IfObserved (T.observed tree.old) (T.observed tree.new) (LeavesCleanBuild lines.items (T.observed tree.old) (T.observed tree.new))) }
+    ensures early { IfErr result (λ status. status ≡ Status.NoMemory → OnlyReads (T.observed tree.old) (T.observed tree.new)) }
+    ensures ok_count { OnOk result (T.faults tree.new ≡ T.faults tree.old) }
+    ensures no_memory_count { IfErr result (λ status. status ≡ Status.NoMemory → T.faults tree.new ≡ T.faults tree.old) }
+    ensures tree_fault { IfErr result (λ status. status ≡ Status.TreeFault → CountRose (T.faults tree.old) (T.faults tree.new)) }
     ensures ends { IfErr result (λ status. (status ≡ Status.TreeFault) ⊎ (status ≡ Status.NoMemory)) }
 {
     match read_project(alloc, tree)? {
-        Project::Refused(errors) => {
+        ReadSources::Refused(errors) => {
             let printed = lines(alloc, &errors)?;
             Ok(printed.into_vec())
         }
-        Project::Trees(files) => {
+        ReadSources::Trees(files) => {
             let lines = build_module(alloc, tree, &files)?;
             Ok(lines)
         }
     }
 }
 
-/// Builds the project of a tree, and prints its error lines.
-pub fn build<T: Tree, K: Sink>(alloc: Global, tree: &mut T, out: &mut K) -> Result<Status, Status>
-    ensures done { ends result ≡ Status.Done → WhereTold (T.told tree.old) (T.told tree.new) (λ t u.
-        CleanIs t.sources (λ clean. (clean.lines ≡ []) × (u.folder ≡ left_in t.folder clean.folder))) }
-    ensures errors { ends result ≡ Status.Errors → WhereTold (T.told tree.old) (T.told tree.new) (λ t u.
-        CleanIs t.sources (λ clean. (clean.lines ≢ []) × (u.folder ≡ left_in t.folder clean.folder))) }
-    ensures sink_fault_folder { ends result ≡ Status.SinkFault → WhereTold (T.told tree.old) (T.told tree.new) (λ t u.
-        CleanIs t.sources (λ clean. u.folder ≡ left_in t.folder clean.folder)) }
-    ensures errors_put { ends result ≡ Status.Errors → WhereTold (T.told tree.old) (T.told tree.new) (λ t u.
-        CleanIs t.sources (λ clean. K.contents out.new ≡ option_map (λ had. had ++ clean.lines) (K.contents out.old))) }
-    ensures sink_fault_put { ends result ≡ Status.SinkFault → WhereTold (T.told tree.old) (T.told tree.new) (λ t u.
-        CleanIs t.sources (λ clean. PutsSome clean.lines (K.contents out.old) (K.contents out.new))) }
-    ensures nothing_put { PutsNothing (ends result) → K.contents out.new ≡ K.contents out.old }
-    ensures errors_untouched { ends result ≡ Status.Errors → WhereTold (T.told tree.old) (T.told tree.new) (λ t u.
-        CleanIs t.sources (λ clean. clean.folder ≡ None → OnlyReads (T.told tree.old) (T.told tree.new))) }
-    ensures sink_fault_untouched { ends result ≡ Status.SinkFault → WhereTold (T.told tree.old) (T.told tree.new) (λ t u.
-        CleanIs t.sources (λ clean. clean.folder ≡ None → OnlyReads (T.told tree.old) (T.told tree.new))) }
-    ensures nothing_written { EndsEarly (ends result) → OnlyReads (T.told tree.old) (T.told tree.new) }
-    ensures usage { (at : _) → ends result ≢ Status.Usage at }
-    ensures bad_map { (fault : _) → ends result ≢ Status.BadMap fault }
-    ensures tree_fault { ends result ≡ Status.TreeFault → Rose (T.faults tree.old) (T.faults tree.new) }
-    ensures sink_fault { ends result ≡ Status.SinkFault → Rose (K.faults out.old) (K.faults out.new) }
+// Prints error lines, where there are any, and answers how the build ends.
+fn print<K: Sink>(lines: &[u8], out: &mut K) -> Status
+    ensures { Printed lines.now (K.contents out.old) (K.contents out.new) (K.faults out.old) (K.faults out.new) result }
 {
-    let lines = build_project(alloc, tree)?;
     if lines.is_empty() {
-        return Ok(Status::Done);
+        return Status::Done;
     }
-    match out.put(&lines) {
-        Ok(()) => Ok(Status::Errors),
-        Err(_) => Err(Status::SinkFault),
+    match out.put(lines) {
+        Ok(()) => Status::Errors,
+        Err(_) => Status::SinkFault,
+    }
+}
+
+/// Builds the project of a tree, and prints its error lines.
+pub fn build<T: Tree, K: Sink>(alloc: Global, tree: &mut T, out: &mut K) -> Status
+    // What is promised of a call with accepted words.
+    ensures { (words : List (List ℕ)) → IsOk (request_of words)
+        → Driven words (outside (T.observed tree.old) (T.faults tree.old) (K.contents out.old) (K.faults out.old))
+        (outside (T.observed tree.new) (T.faults tree.new) (K.contents out.new) (K.faults out.new)) result }
+{
+    match build_project(alloc, tree) {
+        Ok(lines) => print(&lines, out),
+        Err(status) => status,
     }
 }

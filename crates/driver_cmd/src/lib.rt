@@ -3,13 +3,15 @@
 #![tactic(auto)]
 
 mod build;
+mod command;
+mod laws;
 mod listing;
 mod outputs;
 mod parsed;
 mod top_call;
-mod words;
 
+pub use command::{folder_name, read_request};
 pub use drv_outside::{MapFault, Status};
+pub use laws::clean_build_is_one;
 pub use parsed::Parsed;
 pub use top_call::{drive, drive_alone};
-pub use words::read_request;

@@ -6,7 +6,8 @@ use diag_text::Diag;
 use drv_outside::{Entry, NoMemory, Path, Text, is_plain_path};
 use std::alloc::Global;
 
-const MOST_SOURCES: usize = 2000;
+/// A project may have this many source files.
+pub const MOST_SOURCES: usize = 2000;
 
 // An error without a place.
 fn unplaced(alloc: Global, text: String) -> Result<Diag, NoMemory>
@@ -31,7 +32,7 @@ fn not_plain_error(alloc: Global, path: &str) -> Result<Diag, NoMemory>
 fn too_many_error(alloc: Global, count: usize) -> Result<Diag, NoMemory>
     ensures { IfOk result (λ error. error ≡ too_many_error count) }
 {
-    let text = format!(in alloc; "{count} source files, at most 2000")?;
+    let text = format!(in alloc; "{count} source files, at most {MOST_SOURCES}")?;
     let error = unplaced(alloc, text)?;
     Ok(error)
 }
@@ -48,8 +49,8 @@ fn not_plain_errors(alloc: Global, entries: &[Entry]) -> Result<Vec<Diag>, NoMem
     Ok(errors)
 }
 
-/// The errors of a list of sources: one where there are more than 2,000, else one for each path
-/// that isn't plain.
+/// The errors of a list of sources: one where there are more than `MOST_SOURCES`, else one for each
+/// path that isn't plain.
 pub fn listing_errors(alloc: Global, entries: &[Entry]) -> Result<Vec<Diag>, NoMemory>
     ensures { IfOk result (λ errors. errors.items ≡ listing_errors (entry_paths entries.now)) }
 {

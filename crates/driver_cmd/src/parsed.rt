@@ -1,7 +1,8 @@
-ghost use Rattle.std.specs.Prelude.{◌≡◌, ◌≤◌, ◌⊎◌, [], ◌∷◌, map, IfOk, IfErr, IfSome};
-ghost use Rattle.drv_outside.specs.Faults.{Rose};
+ghost use Rattle.std.specs.Prelude.{◌≡◌, ◌⊎◌, [], ◌∷◌, map, IfOk, IfErr, IfSome, OnOk};
+ghost use Rattle.drv_outside.specs.Faults.{CountRose};
 ghost use Rattle.drv_outside.specs.Reads.{OnlyReads};
-ghost use Rattle.drv_outside.specs.Told.{bytes_at};
+ghost use Rattle.drv_outside.specs.TreeState.{bytes_at};
+ghost use Rattle.driver_cmd.specs.Calls.{ReadsPass};
 ghost use Rattle.driver_cmd.specs.Clean.{form_error, form_errors, trees_of};
 ghost use Rattle.driver_cmd.specs.declared.parsed.Parsed.TheVariants.{NoTree};
 ghost use Rattle.driver_cmd.specs.Parsed.{IsParsed, AreParsed, parsed_path, entry_paths};
@@ -36,11 +37,13 @@ fn parse(alloc: Global, path: Path, text: &[u8]) -> Result<Parsed, NoMemory>
 
 // Reads one source and its tree.
 fn read_file<T: Sources>(alloc: Global, tree: &mut T, path: &Path) -> Result<Parsed, Status>
-    ensures file { IfOk result (λ file. IfSome (T.told tree.old) (λ t. IsParsed path.now (bytes_at path.now t.sources) file)) }
+    ensures file { IfOk result (λ file. IfSome (T.observed tree.old) (λ t. IsParsed path.now (bytes_at path.now t.sources) file)) }
     ensures path { IfOk result (λ file. parsed_path file ≡ path.now) }
-    ensures reads { OnlyReads (T.told tree.old) (T.told tree.new) }
-    ensures count { T.faults tree.old ≤ T.faults tree.new }
-    ensures tree_fault { IfErr result (λ status. status ≡ Status.TreeFault → Rose (T.faults tree.old) (T.faults tree.new)) }
+    ensures passed { OnOk result (ReadsPass (T.observed tree.old) (T.observed tree.new)) }
+    ensures reads { OnlyReads (T.observed tree.old) (T.observed tree.new) }
+    ensures ok_count { OnOk result (T.faults tree.new ≡ T.faults tree.old) }
+    ensures no_memory_count { IfErr result (λ status. status ≡ Status.NoMemory → T.faults tree.new ≡ T.faults tree.old) }
+    ensures tree_fault { IfErr result (λ status. status ≡ Status.TreeFault → CountRose (T.faults tree.old) (T.faults tree.new)) }
     ensures ends { IfErr result (λ status. (status ≡ Status.TreeFault) ⊎ (status ≡ Status.NoMemory)) }
 {
     let text = tree.read_source(alloc, path.as_str(), MOST_READ)?;
@@ -55,11 +58,13 @@ pub fn read_files<T: Sources>(
     tree: &mut T,
     entries: &[Entry],
 ) -> Result<Vec<Parsed>, Status>
-    ensures files { IfOk result (λ files. IfSome (T.told tree.old) (λ t. AreParsed t.sources (entry_paths entries.now) files.items)) }
+    ensures files { IfOk result (λ files. IfSome (T.observed tree.old) (λ t. AreParsed t.sources (entry_paths entries.now) files.items)) }
     ensures paths { IfOk result (λ files. map parsed_path files.items ≡ entry_paths entries.now) }
-    ensures reads { OnlyReads (T.told tree.old) (T.told tree.new) }
-    ensures count { T.faults tree.old ≤ T.faults tree.new }
-    ensures tree_fault { IfErr result (λ status. status ≡ Status.TreeFault → Rose (T.faults tree.old) (T.faults tree.new)) }
+    ensures passed { OnOk result (ReadsPass (T.observed tree.old) (T.observed tree.new)) }
+    ensures reads { OnlyReads (T.observed tree.old) (T.observed tree.new) }
+    ensures ok_count { OnOk result (T.faults tree.new ≡ T.faults tree.old) }
+    ensures no_memory_count { IfErr result (λ status. status ≡ Status.NoMemory → T.faults tree.new ≡ T.faults tree.old) }
+    ensures tree_fault { IfErr result (λ status. status ≡ Status.TreeFault → CountRose (T.faults tree.old) (T.faults tree.new)) }
     ensures ends { IfErr result (λ status. (status ≡ Status.TreeFault) ⊎ (status ≡ Status.NoMemory)) }
 {
     let mut files = Vec::new(alloc);

@@ -1,9 +1,10 @@
 ghost use Rattle.std.specs.Prelude.{◌≡◌, ◌≤◌, None, All, IsTrue, IfOk};
-ghost use Rattle.drv_outside.specs.Faults.{Rose};
+ghost use Rattle.drv_outside.specs.Faults.{CountRose};
 ghost use Rattle.drv_outside.specs.Plain.{is_plain_name};
+ghost use Rattle.drv_outside.specs.declared.types.TreeEnd.{TreeEnd};
 
 use crate::{disk, walk};
-use drv_outside::{Entry, Fault, Name, Text, Tree, TreeEnd, one_more};
+use drv_outside::{Entry, Fault, Name, Text, Tree, TreeEnd, counted_fault};
 use std::alloc::Global;
 use std::io;
 use std::io::ErrorKind;
@@ -39,24 +40,24 @@ impl<R: Files + AllocGlobal + Clone + Drop> FolderTree<R> {
 
     // What a failed write, removal or sync answers.
     fn fault(&mut self) -> Fault
-        ensures rose { Rose self.old.faults self.new.faults }
+        ensures rose { CountRose self.old.faults self.new.faults }
         ensures later { self.old.faults ≤ self.new.faults }
     {
-        self.faults = one_more(self.faults);
+        self.faults = counted_fault(self.faults);
         Fault
     }
 
-    // What a failed reading call answers.
+    // What a failed reading call answers. Want of memory is no fault of the tree.
     fn end(&mut self, error: io::Error) -> TreeEnd
-        ensures rose { Rose self.old.faults self.new.faults }
+        ensures rose { result ≡ TreeEnd.Failed → CountRose self.old.faults self.new.faults }
+        ensures stays { result ≡ TreeEnd.NoMemory → self.new.faults ≡ self.old.faults }
         ensures later { self.old.faults ≤ self.new.faults }
     {
-        self.faults = one_more(self.faults);
         if error.kind() == ErrorKind::OutOfMemory {
-            TreeEnd::NoMemory
-        } else {
-            TreeEnd::Failed
+            return TreeEnd::NoMemory;
         }
+        self.faults = counted_fault(self.faults);
+        TreeEnd::Failed
     }
 }
 
@@ -149,7 +150,7 @@ fn sync_tree<R: Files + AllocGlobal + Clone + Drop>(tree: &FolderTree<R>) -> io:
 }
 
 impl<R: Files + AllocGlobal + Clone + Drop> Tree for FolderTree<R> {
-    ghost told = { λ _. None };
+    ghost observed = { λ _. None };
 
     ghost faults = { λ tree. tree.faults };
 

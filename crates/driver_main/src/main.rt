@@ -1,17 +1,19 @@
 //! The driver: builds a project folder, prints to standard output, and ends with the build's status.
 #![tactic(auto)]
 
+ghost use Rattle.std.specs.Prelude.{◌≡◌, Err};
+ghost use Rattle.drv_outside.specs.declared.status.Status.{Status};
+ghost use Rattle.driver_cmd.specs.Command.{NamesNoFolder};
+
 mod disk;
 mod folder;
-mod gate;
 mod output;
 mod walk;
 mod words;
 
-use driver_cmd::{Status, drive};
-use drv_outside::{Sink, Text};
+use driver_cmd::{Status, drive, folder_name};
+use drv_outside::{OpenGate, Sink, Text};
 use folder::FolderTree;
-use gate::OpenGate;
 use output::Output;
 use std::process::ExitCode;
 use std::rt::{Env, Files};
@@ -39,21 +41,32 @@ fn asked_text(words: &[Text]) -> Option<&'static str> {
     }
 }
 
-// Builds the folder that the first word names, as the other words say.
-fn build<R: Files + Print + AllocGlobal + Clone + Drop>(
+// Builds a folder, as the words say.
+fn build_folder<R: Files + Print + AllocGlobal + Clone + Drop>(
     rt: &R,
+    folder: &str,
     words: &[Text],
 ) -> Result<Status, Status> {
-    let [folder, words @ ..] = words else {
-        return Err(Status::Usage { at: 0 });
-    };
-    let Ok(folder) = str::from_utf8(folder.as_slice()) else {
-        return Err(Status::Usage { at: 0 });
-    };
     let folder = String::from_str(rt.alloc(), folder)?;
     let mut tree = FolderTree::new(rt.clone()?, folder);
     let mut out = Output::new(rt.clone()?);
     Ok(drive(rt, words, &mut tree, &OpenGate, &mut out))
+}
+
+// Builds the folder that the first word names, as the other words say.
+fn build<R: Files + Print + AllocGlobal + Clone + Drop>(
+    rt: &R,
+    words: &[Text],
+) -> Result<Status, Status>
+    ensures { NamesNoFolder words.now → result ≡ Err (Status.Usage 0) }
+{
+    match words {
+        [] => Err(Status::Usage { at: 0 }),
+        [word, words @ ..] => match folder_name(word) {
+            Some(folder) => build_folder(rt, folder, words),
+            None => Err(Status::Usage { at: 0 }),
+        },
+    }
 }
 
 // Prints a text that was asked for.

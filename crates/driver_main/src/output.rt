@@ -1,6 +1,6 @@
 ghost use Rattle.std.specs.Prelude.{None};
 
-use drv_outside::{Fault, Sink, one_more};
+use drv_outside::{Fault, Sink, counted_fault};
 use std::io;
 use std::io::Write;
 
@@ -27,7 +27,7 @@ impl<R: Print + Drop> Sink for Output<R> {
         if writer.write_all(bytes).is_ok() && writer.flush().is_ok() {
             return Ok(());
         }
-        self.faults = one_more(self.faults);
+        self.faults = counted_fault(self.faults);
         Err(Fault)
     }
 }

@@ -1,10 +1,13 @@
 //! The sources below the project folder.
 
+ghost use Rattle.std.specs.Prelude.{IfOk};
+ghost use Rattle.drv_outside.specs.TreeState.{AscendByPath};
+
 use crate::disk::joined;
-use drv_outside::{Entry, Path, Stamp};
+use drv_outside::{Entry, Path, Stamp, ascend_by_path};
 use std::alloc::Global;
 use std::fs::Metadata;
-use std::io::ErrorKind;
+use std::io::{ErrorKind, Read};
 use std::rt::Files;
 use std::time::UNIX_EPOCH;
 use std::{fs, io};
@@ -14,6 +17,9 @@ pub const BUILD_FOLDER: &str = "swift-build";
 
 // A folder may stand this many levels below the project folder.
 const MOST_LEVELS: u32 = 100;
+
+// How many bytes of names are asked for at once.
+const NAMES_AT_ONCE: usize = 65_536;
 
 // The stamp of a file: when it was changed, and its size. A time before 1970 is refused.
 fn stamp_of(metadata: &Metadata) -> io::Result<Stamp> {
@@ -50,51 +56,100 @@ fn below(alloc: Global, folder: &str, name: &str) -> io::Result<String> {
     joined(alloc, folder, name)
 }
 
-// Whether a name is passed over: a hidden one anywhere, and the build folder in the project folder.
-fn is_passed_over(folder: &str, name: &str) -> bool {
-    name.starts_with('.') || (folder.is_empty() && name == BUILD_FOLDER)
+// The names in a folder, each with a zero byte behind it, as the system gives them. They needn't be
+// UTF-8.
+fn names_in<R: Files + AllocGlobal>(rt: &R, folder: &str) -> io::Result<Vec<u8>> {
+    let alloc = rt.alloc();
+    let mut some = vec![in alloc; 0u8; NAMES_AT_ONCE]?;
+    let mut names = Vec::new(alloc);
+    let mut dir = rt.open_dir(folder)?;
+    for _ in 0..u64::MAX {
+        let count = dir.read(&mut some)?;
+        if count == 0 {
+            break;
+        }
+        names.extend_from_slice(&some[..count])?;
+    }
+    Ok(names)
 }
 
-// Reads one folder: its sources, and the folders in it.
-fn read_one<R: Files + AllocGlobal + Clone + Drop>(
+// Whether a name is passed over: a hidden one anywhere, and the build folder in the project folder.
+fn is_passed_over(folder: &str, name: &[u8]) -> bool {
+    match name {
+        [] | [b'.', ..] => true,
+        _ => folder.is_empty() && name == BUILD_FOLDER.as_bytes(),
+    }
+}
+
+// Takes what stands under a name in a folder into the walk: a source, or a folder.
+fn take<R: Files + AllocGlobal>(
+    rt: &R,
+    whole: &str,
+    folder: &Pending,
+    name: &str,
+    walk: &mut Walk,
+) -> io::Result<()> {
+    let alloc = rt.alloc();
+    let metadata = fs::symlink_metadata(rt, joined(alloc, whole, name)?.as_str())?;
+    let path = below(alloc, folder.below.as_str(), name)?;
+    if metadata.is_dir() {
+        if folder.levels == 0 {
+            return Err(io::Error::from(ErrorKind::InvalidData));
+        }
+        let levels = folder.levels - 1;
+        walk.pending.push(Pending {
+            below: path,
+            levels,
+        })?;
+    } else if metadata.is_file() && name.ends_with(".swift") {
+        let stamp = stamp_of(&metadata)?;
+        let path = Path::from_string(path);
+        walk.entries.push(Entry { path, stamp })?;
+    }
+    Ok(())
+}
+
+// Reads one folder: its sources, and the folders in it. A name that isn't UTF-8 is refused, unless
+// it is passed over: what stands under it can't be asked for.
+fn read_one<R: Files + AllocGlobal>(
     rt: &R,
     whole: &str,
     folder: &Pending,
     walk: &mut Walk,
 ) -> io::Result<()> {
-    let alloc = rt.alloc();
-    for entry in fs::read_dir(rt, whole)? {
-        let entry = entry?;
-        let name = entry.file_name();
+    let names = names_in(rt, whole)?;
+    for name in names.split(|byte| *byte == 0) {
         if is_passed_over(folder.below.as_str(), name) {
             continue;
         }
-        let kind = entry.file_type()?;
-        let path = below(alloc, folder.below.as_str(), name)?;
-        if kind.is_dir() {
-            if folder.levels == 0 {
-                return Err(io::Error::from(ErrorKind::InvalidData));
-            }
-            let levels = folder.levels - 1;
-            walk.pending.push(Pending {
-                below: path,
-                levels,
-            })?;
-        } else if kind.is_file() && name.ends_with(".swift") {
-            let stamp = stamp_of(&entry.metadata()?)?;
-            let path = Path::from_string(path);
-            walk.entries.push(Entry { path, stamp })?;
-        }
+        let Ok(name) = str::from_utf8(name) else {
+            return Err(io::Error::from(ErrorKind::InvalidFilename));
+        };
+        take(rt, whole, folder, name, walk)?;
     }
     Ok(())
 }
 
+// Entries in byte order of path. A path that is there twice is refused.
+fn in_order(mut entries: Vec<Entry>) -> io::Result<Vec<Entry>>
+    ensures { IfOk result (λ entries. AscendByPath entries.items) }
+{
+    entries.sort_by(|a, b| a.path.cmp(&b.path))?;
+    if !ascend_by_path(&entries) {
+        return Err(io::Error::from(ErrorKind::InvalidData));
+    }
+    Ok(entries)
+}
+
 /// The files below a folder whose names end with `.swift`, in byte order of path. Hidden names and
-/// the build folder are passed over, and links aren't followed.
+/// the build folder are passed over, and links aren't followed. A path that is found twice is a
+/// fault.
 pub fn sources<R: Files + AllocGlobal + Clone + Drop>(
     rt: &R,
     folder: &str,
-) -> io::Result<Vec<Entry>> {
+) -> io::Result<Vec<Entry>>
+    ensures { IfOk result (λ entries. AscendByPath entries.items) }
+{
     let alloc = rt.alloc();
     let mut walk = Walk {
         pending: Vec::new(alloc),
@@ -104,6 +159,7 @@ pub fn sources<R: Files + AllocGlobal + Clone + Drop>(
         below: String::new(alloc),
         levels: MOST_LEVELS,
     })?;
+    // A folder may hold any number of folders, so no count falls by which a `while let` would be seen to end.
     for _ in 0..u64::MAX {
         let Some(next) = walk.pending.pop() else {
             break;
@@ -111,7 +167,7 @@ pub fn sources<R: Files + AllocGlobal + Clone + Drop>(
         let whole = joined(alloc, folder, next.below.as_str())?;
         read_one(rt, whole.as_str(), &next, &mut walk)?;
     }
-    let Walk { mut entries, .. } = walk;
-    entries.sort_by(|a, b| a.path.cmp(&b.path))?;
-    Ok(entries)
+    let Walk { entries, .. } = walk;
+    let ordered = in_order(entries)?;
+    Ok(ordered)
 }

@@ -1,7 +1,10 @@
 pub mod Faults
 pub mod Plain
+pub mod Status
+pub mod Disk
+pub mod TreeState
+pub mod Ascending
+pub mod IfObserved
+pub mod Moments
 pub mod Reads
 pub mod Sink
-pub mod Status
-pub mod Told
-pub mod Where

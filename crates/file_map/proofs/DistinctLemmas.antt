@@ -1,27 +1,29 @@
 -- Default names never meet.
-use Rattle.std.proofs.Common.{◌≡◌, ◌∙◌, ◌+◌, ◌-◌, ◌≤◌, IsTrue, ℕ, Bool, true, false, cond, List, [], ◌∷◌, ◌++◌, map as each, length, take, reverse, get_or, codes, refl, sym, ap, subst, arith, nat_eq, nat_cmp, zero, suc, All}
-use Rattle.std.specs.Prelude.{nat_le, ◌==◌}
-use Rattle.std.specs.List.{list_all, ends_with, AllByRecursion}
+use Rattle.std.proofs.Common.{◌≡◌, ◌∙◌, ◌+◌, ◌-◌, ◌≤◌, IsTrue, ℕ, Bool, true, false, cond, List, [], ◌∷◌, ◌++◌, map as each, reverse, get_or, codes, refl, sym, ap, subst, arith, nat_eq, nat_cmp, suc, All}
+use Rattle.std.specs.List.{list_all, AllByRecursion}
 use Rattle.std.specs.List.Sorted.{IsStrictlySortedBy}
 use Rattle.std.specs.Ordering.{is_eq, eq_by_cmp}
 use Rattle.std.specs.Cmp.{eq_by_cmp_equiv}
 use Rattle.std.specs.Cmp.Lexicographic.{slice_cmp, nat_list_cmp_total, same_text, texts_ties}
 use Rattle.std.specs.declared.cmp.Ordering.{Ordering}
 use Rattle.std.specs.declared.cmp.Ordering.TheVariants.{Less}
-use Rattle.std.proofs.lemmas.Bool.Decides.{nat_tests, Decides-eqb}
-use Rattle.std.proofs.lemmas.Slice.Eq.{ends_is}
+use Rattle.std.proofs.lemmas.Bool.{and_parts}
+use Rattle.std.proofs.lemmas.Bool.Decides.{nat_tests}
 use Rattle.std.proofs.lemmas.List.{append_cancel_right, append_assoc, reverse-append}
 use Rattle.std.proofs.lemmas.List.Folds.{list_all-append}
 use Rattle.std.proofs.lemmas.List.Sums.{sum_by-cons}
 use Rattle.std.proofs.lemmas.Map.Keys.{sorted_head, sorted_tail}
-use Rattle.repeats.specs.Repeats.{times, HasNoRepeat}
-use Rattle.swift_token.specs.Texts.{begins_word, is_word_byte, is_word, is_identifier}
-use Rattle.drv_outside.specs.Plain.{is_path_byte, is_plain_path, swift_ending}
-use Rattle.drv_outside.specs.declared.build_words.MapFault.{MapFault}
+use Rattle.ordered_lists.specs.Repeats.{times, HasNoRepeat}
+use Rattle.swift_token.specs.Texts.{is_word_byte}
+use Rattle.drv_outside.specs.Plain.{is_plain_path}
+use Rattle.drv_outside.specs.declared.faults.MapFault.{MapFault}
 use Rattle.serde_json.specs.Data.{Members, no_members}
-use Rattle.file_map.specs.Assigned.{is_module_name, without_slash, stem_of, names_for, all_names}
+use Rattle.output_names.specs.Stems.{stem_of}
+use Rattle.output_names.specs.ModuleNames.{is_module_name}
+use Rattle.output_names.proofs.StemsLemmas.{same_path}
+use Rattle.output_names.proofs.ModuleNamesLemmas.{word_bytes}
+use Rattle.file_map.specs.Assigned.{names_for, all_names}
 use Rattle.file_map.specs.Repeated.{IsRepeatOf}
-use Rattle.file_map.proofs.PathLemmas.{front, back, both, ends_in_swift}
 
 abbrev order : List ℕ → List ℕ → Ordering
 order = slice_cmp nat_cmp
@@ -90,45 +92,6 @@ before_apart s t e f a b x y apart h = let same : a ≡ b = sym x ∙ ap (λ xs.
     differ : (a b : ℕ) → nat_eq a b ≡ false → a ≡ b → ⊥
     differ a b e same = grind (arith, nat_tests)
 
-no_tilde : (c : ℕ) → is_path_byte c ≡ true → c ≡ 126 → ⊥
-no_tilde c h e = let f : is_path_byte 126 ≡ true = subst (λ d. is_path_byte d ≡ true) e h in cc
-
-same_if : (c d : ℕ) (x y : Bool) → (c == 47) ≡ x → (d == 47) ≡ y → (c ≡ 126 → ⊥) → (d ≡ 126 → ⊥) → cond x 126 c ≡ cond y 126 d → c ≡ d
-same_if c d true true e f h k same = grind (arith, nat_tests)
-same_if c d true false e f h k same = absurd (k (sym same))
-same_if c d false true e f h k same = absurd (h same)
-same_if c d false false e f h k same = same
-
-same_byte : (c d : ℕ) → is_path_byte c ≡ true → is_path_byte d ≡ true → without_slash c ≡ without_slash d → c ≡ d
-same_byte c d h k e = same_if c d _ _ refl refl (no_tilde c h) (no_tilde d k) e
-
-same_bytes : (xs ys : List ℕ) → list_all is_path_byte xs ≡ true → list_all is_path_byte ys ≡ true → each without_slash xs ≡ each without_slash ys → xs ≡ ys
-same_bytes [] [] h k e = refl
-same_bytes [] (d ∷ ys) h k e = cc
-same_bytes (c ∷ xs) [] h k e = cc
-same_bytes (c ∷ xs) (d ∷ ys) h k e =
-    let first : without_slash c ≡ without_slash d = ap (λ zs. get_or zs 0 0) e in
-    let rest : each without_slash xs ≡ each without_slash ys = ap tail e in
-    λ i. same_byte c d (front _ _ h) (front _ _ k) first i ∷ same_bytes xs ys (back (is_path_byte c) _ h) (back (is_path_byte d) _ k) rest i
-  where
-    tail : List ℕ → List ℕ
-    tail [] = []
-    tail (x ∷ xs) = xs
-
-taken_bytes : (k : ℕ) (xs : List ℕ) → list_all is_path_byte xs ≡ true → list_all is_path_byte (take k xs) ≡ true
-taken_bytes zero xs h = refl
-taken_bytes (suc k) [] h = refl
-taken_bytes (suc k) (c ∷ xs) h = both _ _ (front _ _ h) (taken_bytes k xs (back (is_path_byte c) _ h))
-
-path_whole : (p : List ℕ) → is_plain_path p ≡ true → p ≡ take (length p - 6) p ++ swift_ending
-path_whole p h = (ends_is Decides-eqb p swift_ending (ends_with nat_eq p swift_ending) refl).0 (ends_in_swift p h)
-
--- two plain paths with one stem are one
-same_path : (p q : List ℕ) → is_plain_path p ≡ true → is_plain_path q ≡ true → stem_of p ≡ stem_of q → p ≡ q
-same_path p q h k e =
-    let same : take (length p - 6) p ≡ take (length q - 6) q = same_bytes (take (length p - 6) p) (take (length q - 6) q) (taken_bytes (length p - 6) p (back _ _ (front _ _ h))) (taken_bytes (length q - 6) q (back _ _ (front _ _ k))) e in
-    path_whole p h ∙ ap (λ s. s ++ swift_ending) same ∙ sym (path_whole q k)
-
 -- a text isn't a name of the source at q
 record IsNoneOf (q x : List ℕ) : Type 0 where
   object : IsOther x (stem_of q ++ o)
@@ -143,20 +106,11 @@ record IsNoModuleName (name x : List ℕ) : Type 0 where
   kept : IsOther x (name ++ codes ".record.json")
   gate : IsOther x (name ++ codes ".gate")
 
-word_bytes : (name : List ℕ) → is_module_name name ≡ true → list_all is_word_byte name ≡ true
-word_bytes [] h = refl
-word_bytes (c ∷ cs) h =
-    let word : is_word (c ∷ cs) ≡ true = front _ _ (back (nat_le (length (c ∷ cs)) 100) (is_identifier (c ∷ cs)) h) in
-    both _ _ (first_byte c (front _ _ word)) (back (begins_word c) _ word)
-  where
-    first_byte : (c : ℕ) → begins_word c ≡ true → is_word_byte c ≡ true
-    first_byte c h = grind (arith, nat_tests)
-
 no_partial : (s name : List ℕ) → is_module_name name ≡ true → IsOther (s ++ partial_ending) (name ++ codes ".swiftmodule")
 no_partial s name m h =
     let base : s ++ codes "~partial" ≡ name = append_cancel_right (s ++ codes "~partial") name (codes ".swiftmodule") (append_assoc s (codes "~partial") (codes ".swiftmodule") ∙ h) in
     let words : list_all is_word_byte (s ++ codes "~partial") ≡ true = ap (list_all is_word_byte) base ∙ word_bytes name m in
-    let last : false ≡ true = back (list_all is_word_byte s) false (sym (list_all-append is_word_byte s (codes "~partial")) ∙ words) in
+    let last : false ≡ true = (and_parts (list_all is_word_byte s) false (sym (list_all-append is_word_byte s (codes "~partial")) ∙ words)).1 in
     cc
 
 object_no_module : (s name : List ℕ) → IsNoModuleName name (s ++ o)

@@ -1,5 +1,3 @@
-pub mod DistinctLemmas
 pub mod MapLemmas
-pub mod OneLemmas
-pub mod PathLemmas
 pub mod PlainLemmas
+pub mod DistinctLemmas

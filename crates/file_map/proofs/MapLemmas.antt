@@ -1,6 +1,6 @@
 -- A map that was read, and its first fault.
 use Rattle.std.proofs.Common.{◌≡◌, ℕ, List, Option, Some, None, Ok, inr, sym, subst}
-use Rattle.drv_outside.specs.declared.build_words.MapFault.{MapFault}
+use Rattle.drv_outside.specs.declared.faults.MapFault.{MapFault}
 use Rattle.serde_json.specs.Data.{Data, null, boolean, number, string, array, object, Members}
 use Rattle.file_map.specs.Kinds.{given_names}
 use Rattle.file_map.specs.Reading.{keys_fault, IsTextOf, IsTextOfMap, IsMapFault, IsValueFault, members_or_none}

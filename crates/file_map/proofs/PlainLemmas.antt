@@ -1,85 +1,27 @@
 -- All names that are assigned are plain.
-use Rattle.std.proofs.Common.{◌≡◌, ◌+◌, ◌-◌, ◌≤◌, ◌<◌, ◌∙◌, ◌&&◌, IsTrue, ℕ, Bool, true, false, not, cond, List, [], ◌∷◌, ◌++◌, Option, Some, None, map as each, length, take, refl, sym, ap, subst, arith, nat_eq, nat_cmp, zero, suc, All}
-use Rattle.std.specs.Prelude.{nat_le, ◌==◌, codes, option_and_then, unwrap_or}
-use Rattle.std.specs.List.{list_all, starts_with, ends_with, flat_map}
+use Rattle.std.proofs.Common.{◌≡◌, ◌+◌, ◌-◌, ◌≤◌, ◌<◌, ◌∙◌, IsTrue, ℕ, Bool, true, false, cond, List, [], ◌∷◌, ◌++◌, Option, Some, None, map as each, length, refl, sym, ap, subst, arith, nat_cmp, suc, All}
+use Rattle.std.specs.Prelude.{◌==◌, codes, option_and_then, unwrap_or}
+use Rattle.std.specs.List.{list_all, flat_map}
 use Rattle.std.specs.Ordering.{match_ordering}
 use Rattle.std.specs.Cmp.Lexicographic.{slice_cmp}
 use Rattle.std.specs.declared.cmp.Ordering.{Ordering}
 use Rattle.std.specs.declared.cmp.Ordering.TheVariants.{Less, Equal, Greater}
 use Rattle.std.specs.FinMap.{slice_cmp-IsAntisymmetric, nat_cmp-IsAntisymmetric}
+use Rattle.std.proofs.lemmas.Bool.{and_from}
 use Rattle.std.proofs.lemmas.Bool.Decides.{nat_tests}
-use Rattle.std.proofs.lemmas.List.{length-take-le, length-map, length-append}
 use Rattle.std.proofs.lemmas.List.Folds.{list_all-append}
 use Rattle.std.proofs.lemmas.List.Sums.{AllPass-from_list_all}
-use Rattle.swift_token.specs.Texts.{begins_word, is_word_byte, is_word, is_identifier}
-use Rattle.drv_outside.specs.Plain.{is_name_byte, is_plain_name, is_plain_path, swift_ending, full_stop}
-use Rattle.drv_outside.specs.declared.build_words.MapFault.{MapFault}
+use Rattle.drv_outside.specs.Plain.{is_name_byte, is_plain_name, is_plain_path}
+use Rattle.drv_outside.specs.declared.faults.MapFault.{MapFault}
 use Rattle.serde_json.specs.Data.{Data, Members, member, no_members, null, boolean, number, string, array, object}
 use Rattle.serde_json.specs.Find.{get, get_member, as_str, as_object}
-use Rattle.file_map.specs.Assigned.{is_module_name, without_slash, stem_of, name_of, file_names, names_for, all_names, names_of_file, names_of_module}
+use Rattle.output_names.specs.Stems.{stem_of}
+use Rattle.output_names.specs.ModuleNames.{is_module_name}
+use Rattle.output_names.proofs.StemsLemmas.{long_path, stem_name_plain}
+use Rattle.output_names.proofs.ModuleNamesLemmas.{module_name_plain}
+use Rattle.file_map.specs.Assigned.{name_of, file_names, names_for, all_names, names_of_file, names_of_module}
 use Rattle.file_map.specs.Kinds.{is_known, is_source_kind, is_module_kind, given, object_kind, module_kind, dependencies_kind, image_kind, priors_kind, gate_kind}
 use Rattle.file_map.specs.Reading.{first_fault, name_fault, output_fault, outputs_fault, object_fault, keys_fault}
-use Rattle.file_map.proofs.PathLemmas.{front, back, both, long_path, longer, no_stop, no_stop_name, stem_bytes, short_path}
-
-not_zero : (n : ℕ) → 0 < n → not (nat_eq n 0) ≡ true
-not_zero n h = grind (arith, nat_tests)
-
-at_most_255 : (n : ℕ) → n ≤ 255 → nat_le n 255 ≡ true
-at_most_255 n h = grind (arith, nat_tests)
-
--- a name of a filled base of at most 194 bytes and a short ending
-name_with : (base ending : List ℕ) → list_all is_name_byte base ≡ true → list_all is_name_byte ending ≡ true → 0 < length base → length base ≤ 200 → length ending ≤ 55 → not (starts_with nat_eq (base ++ ending) full_stop) ≡ true → is_plain_name (base ++ ending) ≡ true
-name_with base ending b e filled few short first =
-    let all : length (base ++ ending) ≡ length base + length ending = length-append base ending in
-    both _ _ (both _ _ (both _ _ (not_zero (length (base ++ ending)) (omega arith)) (at_most_255 (length (base ++ ending)) (omega arith))) first) (list_all-append is_name_byte base ending ∙ both _ _ b e)
-
-length_stem : (path : List ℕ) → 6 ≤ length path → length (stem_of path) ≡ length path - 6
-length_stem path h =
-    let stem : length (each without_slash (take (length path - 6) path)) ≡ length (take (length path - 6) path) = length-map (take (length path - 6) path) without_slash in
-    let taken : length (take (length path - 6) path) ≡ length path - 6 = length-take-le (length path - 6) path (omega arith) in
-    stem ∙ taken
-
-begins_well : (k c : ℕ) (rest more : List ℕ) → nat_eq 46 c ≡ false → 0 < k → not (starts_with nat_eq (each without_slash (take k (c ∷ rest)) ++ more) full_stop) ≡ true
-begins_well zero c rest more first h = absurd (omega arith)
-begins_well (suc k) c rest more first h = rw (no_stop_name c first) refl
-
--- The defaults of a source are plain.
-default_plain : (path ending : List ℕ) → is_plain_path path ≡ true → list_all is_name_byte ending ≡ true → length ending ≤ 55 → is_plain_name (stem_of path ++ ending) ≡ true
-default_plain [] ending h e short = absurd (let long : 6 ≤ 0 = long_path [] h in omega arith)
-default_plain (c ∷ rest) ending h e short =
-    let path = c ∷ rest in
-    let first : nat_eq 46 c ≡ false = no_stop c rest (back (nat_le (length path) 200 && ends_with nat_eq path swift_ending) _ (front _ _ (front _ _ h))) in
-    let more : 6 < length path = longer c rest h first in
-    let few : length path ≤ 200 = short_path path h in
-    let long : length (stem_of path) ≡ length path - 6 = length_stem path (omega arith) in
-    name_with (stem_of path) ending (stem_bytes path h) e (omega arith) (omega arith) short (begins_well (length path - 6) c rest ending first (omega arith))
-
-word_byte_plain : (c : ℕ) → is_word_byte c ≡ true → is_name_byte c ≡ true
-word_byte_plain c h = grind (arith, nat_tests)
-
-first_byte_plain : (c : ℕ) → begins_word c ≡ true → is_name_byte c ≡ true
-first_byte_plain c h = grind (arith, nat_tests)
-
-first_byte_no_stop : (c : ℕ) → begins_word c ≡ true → nat_eq 46 c ≡ false
-first_byte_no_stop c h = grind (arith, nat_tests)
-
-word_bytes_plain : (cs : List ℕ) → list_all is_word_byte cs ≡ true → list_all is_name_byte cs ≡ true
-word_bytes_plain [] h = refl
-word_bytes_plain (c ∷ cs) h = both _ _ (word_byte_plain c (front _ _ h)) (word_bytes_plain cs (back _ _ h))
-
-at_most_100 : (n : ℕ) → nat_le n 100 ≡ true → n ≤ 200
-at_most_100 n h = grind (arith, nat_tests)
-
-starts_well : (c : ℕ) (rest : List ℕ) → nat_eq 46 c ≡ false → not (starts_with nat_eq (c ∷ rest) full_stop) ≡ true
-starts_well c rest h = rw h refl
-
--- The defaults of the module are plain.
-module_plain : (name ending : List ℕ) → is_module_name name ≡ true → list_all is_name_byte ending ≡ true → length ending ≤ 55 → is_plain_name (name ++ ending) ≡ true
-module_plain [] ending h e short = cc
-module_plain (c ∷ cs) ending h e short =
-    let word : is_word (c ∷ cs) ≡ true = front _ _ (back (nat_le (length (c ∷ cs)) 100) (is_identifier (c ∷ cs)) h) in
-    let first : begins_word c ≡ true = front _ _ word in
-    name_with (c ∷ cs) ending (both _ _ (first_byte_plain c first) (word_bytes_plain cs (back _ _ word))) e (omega arith) (at_most_100 (length (c ∷ cs)) (front _ _ h)) short (starts_well c (cs ++ ending) (first_byte_no_stop c first))
 
 no_first : (a b : Option MapFault) → first_fault a b ≡ None → a ≡ None
 no_first None b e = refl
@@ -152,31 +94,31 @@ source_known path kind h k =
     ap (λ b. cond b (is_module_kind kind) (is_source_kind kind)) (no_zero (length path) (omega (arith, long))) ∙ k
 
 source_plain : (map : Members) (path kind ending : List ℕ) → keys_fault map ≡ None → is_plain_path path ≡ true → is_source_kind kind ≡ true → list_all is_name_byte ending ≡ true → length ending ≤ 55 → is_plain_name (name_of map path kind (stem_of path ++ ending)) ≡ true
-source_plain map path kind ending h p k e short = name_plain map path kind (stem_of path ++ ending) h (source_known path kind p k) (default_plain path ending p e short)
+source_plain map path kind ending h p k e short = name_plain map path kind (stem_of path ++ ending) h (source_known path kind p k) (stem_name_plain path ending p e short)
 
 file_plain : (map : Members) (path : List ℕ) → keys_fault map ≡ None → is_plain_path path ≡ true → list_all is_plain_name (names_of_file (file_names map path)) ≡ true
-file_plain map path h p = both _ _ (source_plain map path object_kind (codes ".o") h p refl refl (omega arith))
-    (both _ _ (source_plain map path module_kind (codes "~partial.swiftmodule") h p refl refl (omega arith))
-    (both _ _ (source_plain map path dependencies_kind (codes ".swiftdeps") h p refl refl (omega arith)) refl))
+file_plain map path h p = and_from _ _ (source_plain map path object_kind (codes ".o") h p refl refl (omega arith))
+    (and_from _ _ (source_plain map path module_kind (codes "~partial.swiftmodule") h p refl refl (omega arith))
+    (and_from _ _ (source_plain map path dependencies_kind (codes ".swiftdeps") h p refl refl (omega arith)) refl))
 
 own_plain : (map : Members) (name kind ending : List ℕ) → keys_fault map ≡ None → is_module_name name ≡ true → is_module_kind kind ≡ true → list_all is_name_byte ending ≡ true → length ending ≤ 55 → is_plain_name (name_of map [] kind (name ++ ending)) ≡ true
-own_plain map name kind ending h m k e short = name_plain map [] kind (name ++ ending) h k (module_plain name ending m e short)
+own_plain map name kind ending h m k e short = name_plain map [] kind (name ++ ending) h k (module_name_plain name ending m e short)
 
 files_plain : (map : Members) (paths : List (List ℕ)) → keys_fault map ≡ None → All (λ path. IsTrue (is_plain_path path)) paths → list_all is_plain_name (flat_map names_of_file (each (file_names map) paths)) ≡ true
 files_plain map [] h all = refl
 files_plain map (path ∷ paths) h all =
     list_all-append is_plain_name (names_of_file (file_names map path)) (flat_map names_of_file (each (file_names map) paths))
-    ∙ both _ _ (file_plain map path h (all 0 path (omega arith))) (files_plain map paths h (λ k d lt. all (suc k) d (omega (arith, lt))))
+    ∙ and_from _ _ (file_plain map path h (all 0 path (omega arith))) (files_plain map paths h (λ k d lt. all (suc k) d (omega (arith, lt))))
 
 names_plain : (map : Members) (name : List ℕ) (paths : List (List ℕ)) → keys_fault map ≡ None → is_module_name name ≡ true → All (λ path. IsTrue (is_plain_path path)) paths → list_all is_plain_name (all_names (names_for map name paths)) ≡ true
 names_plain map name paths h m all =
     list_all-append is_plain_name (flat_map names_of_file (names_for map name paths).files) (names_of_module (names_for map name paths))
-    ∙ both _ _ (files_plain map paths h all)
-    (both _ _ (own_plain map name module_kind (codes ".swiftmodule") h m refl refl (omega arith))
-    (both _ _ (own_plain map name image_kind (codes ".image") h m refl refl (omega arith))
-    (both _ _ (own_plain map name priors_kind (codes ".priors") h m refl refl (omega arith))
-    (both _ _ (own_plain map name dependencies_kind (codes ".record.json") h m refl refl (omega arith))
-    (both _ _ (own_plain map name gate_kind (codes ".gate") h m refl refl (omega arith)) refl)))))
+    ∙ and_from _ _ (files_plain map paths h all)
+    (and_from _ _ (own_plain map name module_kind (codes ".swiftmodule") h m refl refl (omega arith))
+    (and_from _ _ (own_plain map name image_kind (codes ".image") h m refl refl (omega arith))
+    (and_from _ _ (own_plain map name priors_kind (codes ".priors") h m refl refl (omega arith))
+    (and_from _ _ (own_plain map name dependencies_kind (codes ".record.json") h m refl refl (omega arith))
+    (and_from _ _ (own_plain map name gate_kind (codes ".gate") h m refl refl (omega arith)) refl)))))
 
 -- All names that are assigned are plain.
 pub are_plain : (map : Members) (name : List ℕ) (paths : List (List ℕ)) → keys_fault map ≡ None → is_module_name name ≡ true → All (λ path. IsTrue (is_plain_path path)) paths → All (λ name. IsTrue (is_plain_name name)) (all_names (names_for map name paths))

@@ -1,7 +1,7 @@
 -- The names of a build's outputs.
-use Rattle.std.specs.Prelude.{◌≡◌, ◌&&◌, ◌-◌, ◌==◌, ℕ, Bool, List, [], ◌∷◌, ◌++◌, map, flat_map, take, length, nat_le, codes, unwrap_or, Result, Ok, Err, if◌then◌else◌, ⊤}
-use Rattle.swift_token.specs.Texts.{is_identifier}
-use Rattle.drv_outside.specs.declared.build_words.MapFault.{MapFault}
+use Rattle.std.specs.Prelude.{◌≡◌, ℕ, List, [], ◌∷◌, ◌++◌, map, flat_map, codes, unwrap_or, Result, Ok, Err, ⊤}
+use Rattle.drv_outside.specs.declared.faults.MapFault.{MapFault}
+use Rattle.output_names.specs.Stems.{stem_of}
 use Rattle.serde_json.specs.Data.{Members}
 use Rattle.file_map.specs.Kinds.{given, module_key, object_kind, module_kind, dependencies_kind, image_kind, priors_kind, gate_kind}
 use Rattle.file_map.specs.Repeated.{AreDistinct, IsRepeatOf}
@@ -10,20 +10,9 @@ use Rattle.file_map.specs.declared.names.Names.{Names}
 use Rattle.file_map.specs.declared.ends.MapEnd.{MapEnd}
 use Rattle.file_map.specs.declared.ends.MapEnd.TheVariants.{Fault, NoMemory}
 
--- an identifier of at most 100 bytes
-abbrev pub is_module_name : List ℕ → Bool
-is_module_name name = nat_le (length name) 100 && is_identifier name
-
 -- the name that a map gives, and else the default
 abbrev pub name_of : Members → List ℕ → List ℕ → List ℕ → List ℕ
 name_of map key kind default = unwrap_or (given map key kind) default
-
-abbrev pub without_slash : ℕ → ℕ
-without_slash b = if b == 47 then 126 else b
-
--- a path without `.swift` and with `~` for each `/`
-abbrev pub stem_of : List ℕ → List ℕ
-stem_of path = map without_slash (take (length path - 6) path)
 
 -- the names of a source's outputs
 abbrev pub file_names : Members → List ℕ → FileNames
@@ -50,7 +39,8 @@ names_of_file file = file.object ∷ file.partial ∷ file.deps ∷ []
 abbrev pub names_of_module : Names → List (List ℕ)
 names_of_module names = names.«module» ∷ names.image ∷ names.priors ∷ names.build_record ∷ names.gate ∷ []
 
--- all names that are assigned
+-- All names that are assigned: those of each source, in the order of the sources, and then those of the
+-- module.
 abbrev pub all_names : Names → List (List ℕ)
 all_names names = flat_map names_of_file names.files ++ names_of_module names
 

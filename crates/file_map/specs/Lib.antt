@@ -1,5 +1,5 @@
-pub mod Assigned
 pub mod Kinds
-pub mod Reading
 pub mod Repeated
+pub mod Reading
 pub mod Table
+pub mod Assigned

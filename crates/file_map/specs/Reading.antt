@@ -1,8 +1,8 @@
 -- The output file map that a text is, or its first fault.
 use Rattle.std.specs.Prelude.{◌≡◌, ◌⊎◌, ℕ, List, Option, Some, None, if◌then◌else◌, IsUtf8, ⊤}
 use Rattle.drv_outside.specs.Plain.{is_plain_name}
-use Rattle.drv_outside.specs.declared.build_words.MapFault.{MapFault}
-use Rattle.drv_outside.specs.declared.build_words.MapFault.TheVariants.{NotJson, NotTable, NotObject, Kind, PathNotPlain}
+use Rattle.drv_outside.specs.declared.faults.MapFault.{MapFault}
+use Rattle.drv_outside.specs.declared.faults.MapFault.TheVariants.{NotJson, NotTable, NotObject, Kind, PathNotPlain}
 use Rattle.serde_json.specs.Data.{Data, object, Members, member, no_members}
 use Rattle.serde_json.specs.Find.{as_str, as_object}
 use Rattle.serde_json.specs.Read.{read}

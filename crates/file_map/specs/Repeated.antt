@@ -2,9 +2,9 @@
 use Rattle.std.specs.Prelude.{◌≡◌, ℕ, List, Option, Some, None}
 use Rattle.std.specs.Ordering.{nat_cmp}
 use Rattle.std.specs.Cmp.Lexicographic.{slice_cmp}
-use Rattle.repeats.specs.Repeats.{HasNoRepeat, IsLeastRepeated}
-use Rattle.drv_outside.specs.declared.build_words.MapFault.{MapFault}
-use Rattle.drv_outside.specs.declared.build_words.MapFault.TheVariants.{PathRepeated}
+use Rattle.ordered_lists.specs.Repeats.{HasNoRepeat, IsLeastRepeated}
+use Rattle.drv_outside.specs.declared.faults.MapFault.{MapFault}
+use Rattle.drv_outside.specs.declared.faults.MapFault.TheVariants.{PathRepeated}
 
 -- no name is given twice
 abbrev pub AreDistinct : List (List ℕ) → Type 0

@@ -1,50 +1,22 @@
-ghost use Rattle.std.specs.Prelude.{◌≡◌, ◌++◌, map, string_bytes, All, IsTrue, IfOk, IfErr, OnOk};
+ghost use Rattle.std.specs.Prelude.{◌≡◌, ◌++◌, map, All, IsTrue, IfOk, IfErr};
 ghost use Rattle.std.specs.Ordering.{nat_cmp};
 ghost use Rattle.std.specs.Cmp.Lexicographic.{slice_cmp};
 ghost use Rattle.std.specs.List.Sorted.{IsStrictlySortedBy};
 ghost use Rattle.drv_outside.specs.Plain.{is_plain_name, is_plain_path};
-ghost use Rattle.file_map.specs.Assigned.{is_module_name, without_slash, stem_of, name_of, file_names, names_for, all_names, names_of_file, names_of_module, IsAssigned, IsRefusal};
+ghost use Rattle.output_names.specs.ModuleNames.{is_module_name};
+ghost use Rattle.file_map.specs.Assigned.{name_of, file_names, names_for, all_names, IsAssigned, IsRefusal};
 ghost use Rattle.file_map.specs.Repeated.{AreDistinct};
 ghost use Rattle.file_map.specs.Table.{members};
 ghost use Rattle.serde_json.specs.Data.{no_members};
 ghost use Rattle.file_map.specs.declared.ends.MapEnd.{MapEnd};
 
+use crate::names::all_names;
 use crate::repeated::repeat_fault;
 use crate::{FileMap, FileNames, MapEnd, MapFault, Names};
 use drv_outside::{Name, NoMemory, Path};
+use output_names::stem_of;
 use sqlite_items::Items;
 use std::alloc::Global;
-
-/// The bytes of `.swift`.
-const ENDING_BYTES: usize = 6;
-
-fn without_slash(byte: u8) -> u8
-    ensures { result ≡ without_slash byte }
-{
-    if byte == b'/' { b'~' } else { byte }
-}
-
-fn without_slashes(alloc: Global, bytes: &[u8]) -> Result<Vec<u8>, NoMemory>
-    ensures { IfOk result (λ stem. stem.items ≡ map without_slash bytes.now) }
-{
-    let stem: Vec<u8> = bytes
-        .iter()
-        .map(|byte| without_slash(*byte))
-        .collect(alloc)?;
-    Ok(stem)
-}
-
-// A path without `.swift` and with `~` for each `/`.
-#[tactic(auto, using(crate::proofs::PathLemmas::long_path))]
-fn stem_of(alloc: Global, path: &str) -> Result<String, NoMemory>
-    requires { IsTrue (is_plain_path path.now) }
-    ensures { IfOk result (λ stem. string_bytes stem ≡ stem_of path.now) }
-{
-    let bytes = path.as_bytes();
-    let stem = without_slashes(alloc, &bytes[..bytes.len() - ENDING_BYTES])?;
-    let stem = String::from_utf8(stem).unwrap();
-    Ok(stem)
-}
 
 // The name that a map gives, and else the base with the ending.
 fn name_of(
@@ -145,46 +117,6 @@ fn names_for(
         build_record,
         gate,
     })
-}
-
-fn copy_of(alloc: Global, name: &Name) -> Result<Name, NoMemory>
-    ensures { IfOk result (λ copy. copy ≡ name.now) }
-{
-    let copy = Name::from_str(alloc, name.as_str())?;
-    Ok(copy)
-}
-
-// Adds the names of a source's outputs.
-fn push_file(alloc: Global, all: &mut Vec<Name>, file: &FileNames) -> Result<(), NoMemory>
-    ensures { OnOk result (all.new.items ≡ all.old.items ++ names_of_file file.now) }
-{
-    all.push(copy_of(alloc, &file.object)?)?;
-    all.push(copy_of(alloc, &file.partial)?)?;
-    all.push(copy_of(alloc, &file.deps)?)?;
-    Ok(())
-}
-
-// Adds the names of the module's outputs.
-fn push_module(alloc: Global, all: &mut Vec<Name>, names: &Names) -> Result<(), NoMemory>
-    ensures { OnOk result (all.new.items ≡ all.old.items ++ names_of_module names.now) }
-{
-    all.push(copy_of(alloc, &names.module)?)?;
-    all.push(copy_of(alloc, &names.image)?)?;
-    all.push(copy_of(alloc, &names.priors)?)?;
-    all.push(copy_of(alloc, &names.build_record)?)?;
-    all.push(copy_of(alloc, &names.gate)?)?;
-    Ok(())
-}
-
-fn all_names(alloc: Global, names: &Names) -> Result<Vec<Name>, NoMemory>
-    ensures { IfOk result (λ all. all.items ≡ all_names names.now) }
-{
-    let mut all = Vec::new(alloc);
-    for file in names.files.as_slice() {
-        push_file(alloc, &mut all, file)?;
-    }
-    push_module(alloc, &mut all, names)?;
-    Ok(all)
 }
 
 // The names of all outputs, or the least of them that is assigned twice.

@@ -17,6 +17,3 @@ pub use ends::MapEnd;
 pub use names::{FileNames, Names};
 pub use reading::read;
 pub use table::FileMap;
-
-#[cfg(test)]
-mod tests;

@@ -3,7 +3,7 @@ ghost use Rattle.file_map.specs.Repeated.{IsRepeatFault};
 
 use crate::MapFault;
 use drv_outside::{Name, NoMemory};
-use repeats::least_repeat;
+use ordered_lists::least_repeat;
 use std::alloc::Global;
 
 // The fault of a list of names: the least of them that stands twice.

@@ -3,7 +3,7 @@ use Rattle.std.proofs.Common.{ap, ◌≡◌, ℕ, suc, ◌<◌, Bool, true, fals
 use Rattle.std.proofs.lemmas.List.{append_assoc, length-append}
 use Rattle.std.proofs.lemmas.Bool.{true≢false, false≢true}
 use Rattle.grammar.specs.Forms.{Form, begins_by}
-use Rattle.grammar.specs.Faults.{Stops, StartsAs, Taken, Refused, OneTo, One, Begun, Apart, Within, ApartAll, GoesOnWith, Begins, IsBare}
+use Rattle.grammar.specs.Faults.{Stops, StartsAs, Parsed, FailsAt, IsUnambiguousBelow, IsUnambiguous, StartsWithin, AreDisjoint, IsSubset, NeverContinuesWith, ContinuesWith, Begins, IsBare}
 
 pub or_left : (a b : Bool) → (a || b) ≡ false → a ≡ false
 or_left true b e = e
@@ -118,7 +118,7 @@ begins_as test [] [] v a h = absurd (false≢true h)
 begins_as test [] (t ∷ new) v a h = begins_at test (t ∷ a.0) v (sym a.1) h
 begins_as test (t ∷ b) new v a h = h
 
-pub begins_more : {T : Type 0} (test more : T → Bool) (v : List T) → Within test more → begins_by test v ≡ true → begins_by more v ≡ true
+pub begins_more : {T : Type 0} (test more : T → Bool) (v : List T) → IsSubset test more → begins_by test v ≡ true → begins_by more v ≡ true
 begins_more test more [] weaker h = h
 begins_more test more (t ∷ v) weaker h = weaker t h
 
@@ -127,16 +127,16 @@ pub head_begins : {T : Type 0} (one two : T → Bool) (a b : List T) → begins_
 head_begins one two [] b h k = absurd (false≢true h)
 head_begins one two (t ∷ a) b h k = k
 
-pub weaker_begun : {T X : Type 0} (test more : T → Bool) (f : Form T X) → Within test more → Begun test f → Begun more f
+pub weaker_begun : {T X : Type 0} (test more : T → Bool) (f : Form T X) → IsSubset test more → StartsWithin test f → StartsWithin more f
 weaker_begun test more f weaker begun x r = begins_more test more (f.tokens x) weaker (begun x r)
 
-pub one_of_any : {T X : Type 0} (f : Form T X) → ((n : ℕ) → OneTo n f) → One f
+pub one_of_any : {T X : Type 0} (f : Form T X) → ((n : ℕ) → IsUnambiguousBelow n f) → IsUnambiguous f
 one_of_any f one x y v w rx ry sv sw e = one (suc (length (f.tokens x))) x y v w (omega arith) rx ry sv sw e
 
-pub one_to : {T X : Type 0} (f : Form T X) → One f → (n : ℕ) → OneTo n f
+pub one_to : {T X : Type 0} (f : Form T X) → IsUnambiguous f → (n : ℕ) → IsUnambiguousBelow n f
 one_to f one n x y v w small rx ry sv sw e = one x y v w rx ry sv sw e
 
-pub none_smaller : {T X : Type 0} (f : Form T X) → OneTo 0 f
+pub none_smaller : {T X : Type 0} (f : Form T X) → IsUnambiguousBelow 0 f
 none_smaller f x y v w small rx ry sv sw e = absurd (omega arith)
 
 pub one_holds : (a b c : Bool) → (a ≡ true → c ≡ true) → (b ≡ true → c ≡ true) → (a || b) ≡ true → c ≡ true
@@ -147,47 +147,47 @@ pub not_true : (b : Bool) → (b ≡ true → ⊥) → b ≡ false
 not_true true h = absurd (h refl)
 not_true false h = refl
 
--- a form that goes on with certain tokens does not go on with others
-pub goes_apart : {T X : Type 0} (test on : T → Bool) (f : Form T X) → GoesOnWith on f → Apart test on → ApartAll test f
-goes_apart test on f goes apart x t m = not_true (f.goes_on x t) (λ h. both_false (on t) (apart t m) (goes x t h))
+-- a form that continues with certain tokens does not continue with others
+pub goes_apart : {T X : Type 0} (test on : T → Bool) (f : Form T X) → ContinuesWith on f → AreDisjoint test on → NeverContinuesWith test f
+goes_apart test on f goes apart x t m = not_true (f.continues x t) (λ h. both_false (on t) (apart t m) (goes x t h))
 
-pub goes_more : {T X : Type 0} (on more : T → Bool) (f : Form T X) → GoesOnWith on f → Within on more → GoesOnWith more f
+pub goes_more : {T X : Type 0} (on more : T → Bool) (f : Form T X) → ContinuesWith on f → IsSubset on more → ContinuesWith more f
 goes_more on more f goes within x t h = within t (goes x t h)
 
-pub taken_at : {T X : Type 0} (f : Form T X) (x : X) (ends : T → Bool) (old a b : List T) → Taken f x ends old a → a ≡ b → Taken f x ends old b
-taken_at f x ends old a b t e = subst (λ z. Taken f x ends old z) e t
+pub taken_at : {T X : Type 0} (f : Form T X) (x : X) (ends : T → Bool) (old a b : List T) → Parsed f x ends old a → a ≡ b → Parsed f x ends old b
+taken_at f x ends old a b t e = subst (λ z. Parsed f x ends old z) e t
 
-pub refused_from : {T X : Type 0} (f : Form T X) (a b new : List T) → Refused f a new → b ≡ a → Refused f b new
-refused_from f a b new r e = subst (λ z. Refused f z new) (sym e) r
+pub refused_from : {T X : Type 0} (f : Form T X) (a b new : List T) → FailsAt f a new → b ≡ a → FailsAt f b new
+refused_from f a b new r e = subst (λ z. FailsAt f z new) (sym e) r
 
 starts_same : {T : Type 0} (v : List T) → StartsAs v v
 starts_same [] = refl
 starts_same (t ∷ v) = (v, refl)
 
--- a form that goes on with nothing
-pub ends_goes : {T X : Type 0} (on : T → Bool) (f : Form T X) → ((x : X) (t : T) → f.goes_on x t ≡ false) → GoesOnWith on f
-ends_goes on f ends x t h = absurd (both_false (f.goes_on x t) (ends x t) h)
+-- a form that continues with nothing
+pub ends_goes : {T X : Type 0} (on : T → Bool) (f : Form T X) → ((x : X) (t : T) → f.continues x t ≡ false) → ContinuesWith on f
+ends_goes on f ends x t h = absurd (both_false (f.continues x t) (ends x t) h)
 
-pub ends_apart : {T X : Type 0} (test : T → Bool) (f : Form T X) → ((x : X) (t : T) → f.goes_on x t ≡ false) → ApartAll test f
+pub ends_apart : {T X : Type 0} (test : T → Bool) (f : Form T X) → ((x : X) (t : T) → f.continues x t ≡ false) → NeverContinuesWith test f
 ends_apart test f ends x t m = ends x t
 
 -- what was taken was not refused
-pub taken_not_refused : {T X : Type 0} {f : Form T X} {x : X} {old mid new : List T} → Taken f x (f.goes_on x) old mid → Refused f old new → ⊥
+pub taken_not_refused : {T X : Type 0} {f : Form T X} {x : X} {old mid new : List T} → Parsed f x (f.continues x) old mid → FailsAt f old new → ⊥
 taken_not_refused {T} {X} {f} {x} {old} {mid} {new} t r = r.refuses x new mid t.right (starts_same new) t.stops (sym t.spelled ∙ r.spelled)
 
 -- a tree of one token is some tree
 pub bare_begins : {T X : Type 0} {f : Form T X} {t : T} → IsBare f t → Begins f []
 bare_begins {T} {X} {f} {t} b = record { tree = b.tree; more = t ∷ []; right = b.right; spelled = b.spelled }
 
--- a tree that goes on with nothing ends anywhere
-pub taken_ended : {T X : Type 0} {f : Form T X} {x : X} {e : T → Bool} {old new : List T} → ((y : X) (t : T) → f.goes_on y t ≡ false) → Taken f x e old new → Taken f x (f.goes_on x) old new
-taken_ended {T} {X} {f} {x} {e} {old} {new} ends t = record { spelled = t.spelled; right = t.right; stops = stops_never (f.goes_on x) new (ends x) }
+-- a tree that continues with nothing ends anywhere
+pub taken_ended : {T X : Type 0} {f : Form T X} {x : X} {e : T → Bool} {old new : List T} → ((y : X) (t : T) → f.continues y t ≡ false) → Parsed f x e old new → Parsed f x (f.continues x) old new
+taken_ended {T} {X} {f} {x} {e} {old} {new} ends t = record { spelled = t.spelled; right = t.right; stops = stops_never (f.continues x) new (ends x) }
 
-pub taken_nothing : {T X : Type 0} {f : Form T X} {x : X} {e : T → Bool} {old new : List T} → Taken f x e old new → Taken f x (λ t. false) old new
+pub taken_nothing : {T X : Type 0} {f : Form T X} {x : X} {e : T → Bool} {old new : List T} → Parsed f x e old new → Parsed f x (λ t. false) old new
 taken_nothing {T} {X} {f} {x} {e} {old} {new} t = record { spelled = t.spelled; right = t.right; stops = stops_nothing new }
 
 -- a tree of one token stands at the front of a list
-pub single_taken : {T X : Type 0} (f : Form T X) (x : X) (t : T) (old new : List T) → f.tokens x ≡ t ∷ [] → f.is_right x ≡ true → old ≡ t ∷ new → Taken f x (λ u. false) old new
+pub single_taken : {T X : Type 0} (f : Form T X) (x : X) (t : T) (old new : List T) → f.tokens x ≡ t ∷ [] → f.is_well_formed x ≡ true → old ≡ t ∷ new → Parsed f x (λ u. false) old new
 single_taken f x t old new e r h = record { spelled = h ∙ ap (λ ts. ts ++ new) (sym e); right = r; stops = stops_nothing new }
 
 begins_some : {T : Type 0} (test : T → Bool) (v : List T) → begins_by test v ≡ true → 0 < length v
@@ -195,14 +195,14 @@ begins_some test [] h = absurd (false≢true h)
 begins_some test (t ∷ v) h = omega arith
 
 -- a tree that begins with a token takes one at least
-pub taken_shorter : {T X : Type 0} {f : Form T X} {x : X} {ends : T → Bool} {old new : List T} (test : T → Bool) → Begun test f → Taken f x ends old new → length new < length old
+pub taken_shorter : {T X : Type 0} {f : Form T X} {x : X} {ends : T → Bool} {old new : List T} (test : T → Bool) → StartsWithin test f → Parsed f x ends old new → length new < length old
 taken_shorter {T} {X} {f} {x} {ends} {old} {new} test begun t =
     let some = begins_some test (f.tokens x) (begun x t.right) in
     let e : length old ≡ length (f.tokens x ++ new) = ap length t.spelled in
     omega (arith, length-append (f.tokens x) new)
 
 -- no tree takes more than there is
-pub taken_no_longer : {T X : Type 0} {f : Form T X} {x : X} {ends : T → Bool} {old new : List T} → Taken f x ends old new → length new ≤ length old
+pub taken_no_longer : {T X : Type 0} {f : Form T X} {x : X} {ends : T → Bool} {old new : List T} → Parsed f x ends old new → length new ≤ length old
 taken_no_longer {T} {X} {f} {x} {ends} {old} {new} t =
     let e : length old ≡ length (f.tokens x ++ new) = ap length t.spelled in
     omega (arith, length-append (f.tokens x) new)

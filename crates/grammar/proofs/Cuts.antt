@@ -3,7 +3,7 @@ use Rattle.std.proofs.Common.{◌≡◌, ℕ, ◌≤◌, ◌+◌, Bool, true, fa
 use Rattle.std.proofs.lemmas.List.{append_assoc, append-nil, length-append}
 use Rattle.std.proofs.lemmas.Bool.{and_parts, leb-true}
 use Rattle.grammar.specs.Forms.{Form}
-use Rattle.grammar.specs.Faults.{Taken}
+use Rattle.grammar.specs.Faults.{Parsed}
 use Rattle.grammar.specs.Whole.{IsWhole, IsBeginning, IsFirstFault}
 use Rattle.grammar.specs.Levels.{level, level_after, too_deep, NotBehind, IsTree, IsUnexpected, IsTooDeep, Balanced}
 use Rattle.grammar.proofs.Balance.{after_append, level_opens}
@@ -76,7 +76,7 @@ cut_unexpected opens closes f limit ts rest t left deep s r = (
 )
 
 -- a list that has no bracket too deep
-pub shallow_tree : {T X : Type 0} (opens closes : T → Bool) (f : Form T X) (limit : ℕ) (ts : List T) (x : X) → too_deep opens closes limit 0 ts ≡ None → Taken f x (f.goes_on x) ts [] → IsTree opens closes limit f ts x
+pub shallow_tree : {T X : Type 0} (opens closes : T → Bool) (f : Form T X) (limit : ℕ) (ts : List T) (x : X) → too_deep opens closes limit 0 ts ≡ None → Parsed f x (f.continues x) ts [] → IsTree opens closes limit f ts x
 shallow_tree opens closes f limit ts x none t = (t.right, sym (t.spelled ∙ append-nil (f.tokens x)), none)
 
 pub shallow_unexpected : {T X : Type 0} (opens closes : T → Bool) (f : Form T X) (limit : ℕ) (ts rest : List T) → too_deep opens closes limit 0 ts ≡ None → IsFirstFault f ts rest → IsUnexpected opens closes limit f ts rest

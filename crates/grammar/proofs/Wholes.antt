@@ -2,16 +2,16 @@
 use Rattle.std.proofs.Common.{◌≡◌, List, [], ◌∷◌, ◌++◌, refl, sym, ◌∙◌, ap, subst}
 use Rattle.std.proofs.lemmas.List.{append_assoc, append-nil}
 use Rattle.grammar.specs.Forms.{Form}
-use Rattle.grammar.specs.Faults.{Taken, Refused, One}
+use Rattle.grammar.specs.Faults.{Parsed, FailsAt, IsUnambiguous}
 use Rattle.grammar.proofs.Basics.{none_left, head_of, tail_of}
-use Rattle.grammar.specs.Whole.{IsWhole, IsBeginning, CannotGoOn, IsFirstFault}
+use Rattle.grammar.specs.Whole.{IsWhole, IsBeginning, CannotContinue, IsFirstFault}
 
 -- a tree was taken, and nothing is left
-pub whole_taken : {T X : Type 0} (f : Form T X) (x : X) (ts : List T) → Taken f x (f.goes_on x) ts [] → IsWhole f ts
+pub whole_taken : {T X : Type 0} (f : Form T X) (x : X) (ts : List T) → Parsed f x (f.continues x) ts [] → IsWhole f ts
 whole_taken f x ts t = (x, t.right, sym (t.spelled ∙ append-nil (f.tokens x)))
 
 -- what is left is the first fault
-pub whole_left : {T X : Type 0} (f : Form T X) (x : X) (ts : List T) (t : T) (rest : List T) → One f → Taken f x (f.goes_on x) ts (t ∷ rest) → IsFirstFault f ts (t ∷ rest)
+pub whole_left : {T X : Type 0} (f : Form T X) (x : X) (ts : List T) (t : T) (rest : List T) → IsUnambiguous f → Parsed f x (f.continues x) ts (t ∷ rest) → IsFirstFault f ts (t ∷ rest)
 whole_left f x ts t rest one u = record {
   before = f.tokens x;
   spelled = u.spelled;
@@ -19,7 +19,7 @@ whole_left f x ts t rest one u = record {
   ends = λ z. none_left t z.1 (t ∷ z.1) refl (sym ((one z.0 x [] (t ∷ z.1) z.2 u.right tt u.stops (append-nil (f.tokens z.0) ∙ z.3 ∙ append_assoc (f.tokens x) (t ∷ []) z.1)).1));
 }
 
-pub whole_refused : {T X : Type 0} (f : Form T X) (ts rest : List T) → Refused f ts rest → IsFirstFault f ts rest
+pub whole_refused : {T X : Type 0} (f : Form T X) (ts rest : List T) → FailsAt f ts rest → IsFirstFault f ts rest
 whole_refused f ts [] r = record {
   before = r.before;
   spelled = r.spelled;
@@ -44,7 +44,7 @@ no_fault f ts [] w r = r.ends (w.0, w.1, w.2 ∙ r.spelled ∙ append-nil r.befo
 no_fault f ts (t ∷ rest) w r = r.ends (w.0, rest, w.1, w.2 ∙ r.spelled ∙ sym (append_assoc r.before (t ∷ []) rest))
 
 -- a list of tokens has one tree
-pub one_whole : {T X : Type 0} (f : Form T X) (ts : List T) → One f → (v w : IsWhole f ts) → v.0 ≡ w.0
+pub one_whole : {T X : Type 0} (f : Form T X) (ts : List T) → IsUnambiguous f → (v w : IsWhole f ts) → v.0 ≡ w.0
 one_whole f ts one v w = (one v.0 w.0 [] [] v.1 w.1 tt tt (ap (λ us. us ++ []) (v.2 ∙ sym w.2))).0
 
 next_of : {T : Type 0} (front : List T) (t u : T) (b : List T) → t ≡ u → front ++ (t ∷ b) ≡ (front ++ [] ++ (u ∷ [])) ++ b
@@ -54,7 +54,7 @@ shifted : {T : Type 0} (front : List T) (t u : T) (b : List T) → t ≡ u → f
 shifted front t u b e = ap (λ z. front ++ (z ∷ b)) (sym e) ∙ sym (append_assoc front (t ∷ []) b)
 
 -- two first faults of one list are one: behind a common front, neither can stand before the other
-fault_order : {T X : Type 0} (f : Form T X) (front a b rest other : List T) → IsBeginning f (front ++ a) → IsBeginning f (front ++ b) → CannotGoOn f (front ++ a) rest → CannotGoOn f (front ++ b) other → a ++ rest ≡ b ++ other → rest ≡ other
+fault_order : {T X : Type 0} (f : Form T X) (front a b rest other : List T) → IsBeginning f (front ++ a) → IsBeginning f (front ++ b) → CannotContinue f (front ++ a) rest → CannotContinue f (front ++ b) other → a ++ rest ≡ b ++ other → rest ≡ other
 fault_order f front [] [] rest other ia ib ca cb e = e
 fault_order f front [] (t ∷ b) [] other ia ib ca cb e = absurd (none_left t (b ++ other) [] (sym e) refl)
 fault_order f front [] (t ∷ b) (u ∷ rest) other ia ib ca cb e =
@@ -66,7 +66,7 @@ fault_order f front (t ∷ a) (u ∷ b) rest other ia ib ca cb e =
     let h = head_of t u (a ++ rest) (b ++ other) e in
     fault_order f (front ++ (t ∷ [])) a b rest other
     (subst (λ ts. IsBeginning f ts) (sym (append_assoc front (t ∷ []) a)) ia) (subst (λ ts. IsBeginning f ts) (shifted front t u b h) ib)
-    (subst (λ ts. CannotGoOn f ts rest) (sym (append_assoc front (t ∷ []) a)) ca) (subst (λ ts. CannotGoOn f ts other) (shifted front t u b h) cb) (tail_of t u (a ++ rest) (b ++ other) e)
+    (subst (λ ts. CannotContinue f ts rest) (sym (append_assoc front (t ∷ []) a)) ca) (subst (λ ts. CannotContinue f ts other) (shifted front t u b h) cb) (tail_of t u (a ++ rest) (b ++ other) e)
 
 pub one_fault : {T X : Type 0} (f : Form T X) (ts rest other : List T) → IsFirstFault f ts rest → IsFirstFault f ts other → rest ≡ other
 one_fault f ts rest other r s = fault_order f [] r.before s.before rest other r.begins s.begins r.ends s.ends (sym r.spelled ∙ s.spelled)

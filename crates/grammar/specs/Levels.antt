@@ -24,7 +24,7 @@ NotBehind rest (Some deep) = length deep ≤ length rest
 
 -- The tree of a list that opens no level above the limit.
 abbrev pub IsTree : {T X : Type 0} → (T → Bool) → (T → Bool) → ℕ → Form T X → List T → X → Type 0
-IsTree opens closes limit f ts x = (f.is_right x ≡ true) × (f.tokens x ≡ ts) × (too_deep opens closes limit 0 ts ≡ None)
+IsTree opens closes limit f ts x = (f.is_well_formed x ≡ true) × (f.tokens x ≡ ts) × (too_deep opens closes limit 0 ts ≡ None)
 
 -- The first fault of a list, no later than its first bracket that is too deep.
 abbrev pub IsUnexpected : {T X : Type 0} → (T → Bool) → (T → Bool) → ℕ → Form T X → List T → List T → Type 0
@@ -40,12 +40,12 @@ pub record IsTooDeep {T : Type 0} {X : Type 0} (opens closes : T → Bool) (limi
   pub deep : too_deep opens closes limit 0 ts ≡ Some rest
   pub begins : IsBeginning f (before ++ (bracket ∷ []))
 
--- Each right tree closes what it opens, and no more. It is said of trees of fewer than n tokens.
+-- Each well-formed tree closes what it opens, and no more. It is said of trees of fewer than n tokens.
 abbrev pub BalancedTo : {T X : Type 0} → (T → Bool) → (T → Bool) → ℕ → Form T X → Type 0
-BalancedTo {T} {X} opens closes n f = (x : X) (held : ℕ) → length (f.tokens x) < n → f.is_right x ≡ true → level_after opens closes held (f.tokens x) ≡ held
+BalancedTo {T} {X} opens closes n f = (x : X) (held : ℕ) → length (f.tokens x) < n → f.is_well_formed x ≡ true → level_after opens closes held (f.tokens x) ≡ held
 
 abbrev pub Balanced : {T X : Type 0} → (T → Bool) → (T → Bool) → Form T X → Type 0
-Balanced {T} {X} opens closes f = (x : X) (held : ℕ) → f.is_right x ≡ true → level_after opens closes held (f.tokens x) ≡ held
+Balanced {T} {X} opens closes f = (x : X) (held : ℕ) → f.is_well_formed x ≡ true → level_after opens closes held (f.tokens x) ≡ held
 
 -- The tokens of the test are no brackets.
 abbrev pub Plain : {T : Type 0} → (T → Bool) → (T → Bool) → (T → Bool) → Type 0

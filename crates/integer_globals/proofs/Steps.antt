@@ -7,11 +7,11 @@ use Rattle.swift_ast.specs.Leaves.{Leaf, leaf_of}
 use Rattle.swift_token.specs.Texts.{is_blank}
 use Rattle.swift_token.specs.Spelling.{begins_by, IsBlanks, is_line_feed, line_behind}
 use Rattle.swift_token.proofs.Fronts.{front_passes, front_stops}
-use Rattle.swift_token.proofs.Places.{gap_feeds, line_bound, column_bound}
+use Rattle.swift_token.proofs.Places.{trivia_feeds, line_bound, column_bound}
 use Rattle.integer_globals.specs.declared.words.First.{First}
-use Rattle.swift_token.specs.declared.positions.Place.{Place}
+use Rattle.swift_token.specs.declared.positions.Position.{Position}
 use Rattle.integer_globals.specs.Lexing.{FindsFirst}
-use Rattle.swift_token.specs.Placing.{IsPlaceBehind}
+use Rattle.swift_token.specs.Positions.{IsPositionBehind}
 use Rattle.integer_globals.proofs.Lexed.{Lexed, lexed_more}
 
 -- The blanks at the front, and what stands behind them.
@@ -35,16 +35,16 @@ blanks_cut n rest gap behind len front back =
 pub blank_rest : (rest gap behind : List ℕ) → IsCut rest gap behind → behind ≡ [] → IsBlanks rest
 blank_rest rest gap behind cut none = subst (λ (x : List ℕ). IsBlanks x) (sym (cut.whole ∙ ap (λ (x : List ℕ). gap ++ x) none ∙ append-nil gap)) cut.blank
 
-abbrev pub leaf_at : First → Bool → Place → Leaf
+abbrev pub leaf_at : First → Bool → Position → Leaf
 leaf_at f first start = record { kind = f.kind; text = f.text.now; first_on_line = first; line = start.line; column = start.column }
 
-pub lexed_step : (text before rest gap behind : List ℕ) (f : First) (done : List Leaf) (first : Bool) (place start : Place) → Lexed text before rest done → IsCut rest gap behind → FindsFirst (Some f) behind
-    → IsPlaceBehind place before → IsPlaceBehind start (before ++ gap) → first ≡ (eqb (length done) 0 || ltb place.line start.line)
+pub lexed_step : (text before rest gap behind : List ℕ) (f : First) (done : List Leaf) (first : Bool) (place start : Position) → Lexed text before rest done → IsCut rest gap behind → FindsFirst (Some f) behind
+    → IsPositionBehind place before → IsPositionBehind start (before ++ gap) → first ≡ (eqb (length done) 0 || ltb place.line start.line)
     → Lexed text (before ++ (gap ++ f.text.now)) f.after.now (done ++ (leaf_at f first start ∷ []))
 lexed_step text before rest gap behind f done first place start l cut finds at from is_first =
     let split : behind ≡ f.text.now ++ f.after.now = finds.sound.0 in
     let whole : rest ≡ gap ++ (f.text.now ++ f.after.now) = cut.whole ∙ ap (λ (x : List ℕ). gap ++ x) split in
-    let feeds : list_any is_line_feed gap ≡ ltb place.line start.line = gap_feeds before gap ∙ ap (λ (n : ℕ). ltb n (line_behind (before ++ gap))) (sym at.line) ∙ ap (λ (n : ℕ). ltb place.line n) (sym from.line) in
+    let feeds : list_any is_line_feed gap ≡ ltb place.line start.line = trivia_feeds before gap ∙ ap (λ (n : ℕ). ltb n (line_behind (before ++ gap))) (sym at.line) ∙ ap (λ (n : ℕ). ltb place.line n) (sym from.line) in
     lexed_more text before gap f.after.now (leaf_at f first start) done (subst (λ (x : List ℕ). Lexed text before x done) whole l) cut.blank finds.sound.1
     (record { line = from.line; column = from.column; first_on_line = is_first ∙ ap (λ (b : Bool). b || ltb place.line start.line) l.begun ∙ ap (λ (b : Bool). eqb (length before) 0 || b) (sym feeds) })
     (λ k front more plain other t. finds.complete k front more plain (split ∙ other) t)
@@ -53,5 +53,5 @@ lexed_step text before rest gap behind f done first place start l cut finds at f
 pub pushed : (tokens more : List Token) (t : Token) → more ≡ tokens ++ (t ∷ []) → map leaf_of tokens ++ (leaf_of t ∷ []) ≡ map leaf_of more
 pushed tokens more t e = sym (ap (map leaf_of) e ∙ map_push leaf_of tokens t)
 
-pub place_fits : (p : Place) (before : List ℕ) (n : ℕ) → IsPlaceBehind p before → length before + n ≤ 262144 → (p.line + n < 2 ^ 32) × (p.column + n < 2 ^ 32)
+pub place_fits : (p : Position) (before : List ℕ) (n : ℕ) → IsPositionBehind p before → length before + n ≤ 262144 → (p.line + n < 2 ^ 32) × (p.column + n < 2 ^ 32)
 place_fits p before n at short = (omega (arith, at.line, line_bound before), omega (arith, at.column, column_bound before))

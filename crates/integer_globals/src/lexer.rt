@@ -5,7 +5,7 @@ ghost use Rattle.integer_globals.specs.Lexing.{are_plain};
 
 use crate::words::first_token;
 use std::alloc::{AllocError, Global};
-use swift_token::{Place, Token, blanks_len, is_first_on_line};
+use swift_token::{Position, Token, blanks_len, is_first_on_line};
 
 /// The tokens of the text, if they are words, integers, `=` and `+` with blanks between them.
 pub fn plain_tokens<'a>(
@@ -17,7 +17,7 @@ pub fn plain_tokens<'a>(
     ensures complete { IfOk result (λ found. (ts : List Leaf) → are_plain ts ≡ true → SpellsByBlanks ts bytes.now → MatchOption found ⊥ (λ tokens. map leaf_of tokens.items ≡ ts)) }
 {
     let mut tokens = Vec::new(alloc);
-    let mut place = Place { line: 1, column: 1 };
+    let mut place = Position { line: 1, column: 1 };
     let mut rest = bytes;
     while !rest.is_empty() {
         let (blanks, behind) = rest.split_at(blanks_len(rest));

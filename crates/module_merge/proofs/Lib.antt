@@ -1,6 +1,5 @@
 pub mod LineLemmas
-pub mod MergeLemmas
-pub mod MissingLemmas
 pub mod PathLemmas
 pub mod PathOrderLemmas
-pub mod TableLemmas
+pub mod MergeLemmas
+pub mod MissingLemmas

@@ -2,6 +2,7 @@
 -- feed, are what stands after the first line feed.
 use Rattle.std.proofs.Common.{◌≡◌, ◌∙◌, ◌&&◌, ◌++◌, ◌+◌, ◌-◌, ℕ, Bool, true, false, not, cond, List, [], ◌∷◌, length, take, drop, refl, sym, ap, subst, suc, arith, codes, IsTrue}
 use Rattle.std.specs.List.{after_first, onto_first, position_or_len}
+use Rattle.std.proofs.lemmas.Bool.{and_parts}
 use Rattle.std.proofs.lemmas.Bool.Decides.{Decides-eqb}
 use Rattle.std.proofs.lemmas.Slice.Eq.{ends_is}
 use Rattle.module_merge.specs.Lines.{is_line_feed, has_ended_lines, lines_of, text_of, all_but_first}
@@ -52,10 +53,6 @@ lines_after_first text h =
     let P : List ℕ → Type 0 = λ t. text_of (all_but_first (lines_of t)) ≡ after_first is_line_feed t in
     subst P (sym (ends text h)) (rest_of_lines (take (length text - 1) text))
 
-first_of : (a b : Bool) → a && b ≡ true → a ≡ true
-first_of true b e = refl
-first_of false b e = e
-
 -- the same of a text that passes a test of which this is the first part
 pub lines_after_first_where : (text : List ℕ) (b : Bool) → IsTrue (has_ended_lines text && b) → text_of (all_but_first (lines_of text)) ≡ after_first is_line_feed text
-lines_after_first_where text b e = lines_after_first text (first_of (has_ended_lines text) b e)
+lines_after_first_where text b e = lines_after_first text (and_parts (has_ended_lines text) b e).0

@@ -1,54 +1,16 @@
 -- The least of some symbols, and the symbols that are used and not defined.
-use Rattle.std.proofs.Common.{◌≡◌, ◌≢◌, ◌∙◌, ◌&&◌, ◌||◌, ◌++◌, ℕ, Bool, true, false, not, cond, List, [], ◌∷◌, Option, Some, None, filter, refl, sym, ap, subst, arith, nat_eq, nat_cmp}
-use Rattle.std.specs.Ordering.{is_le, is_eq, ordering_reverse}
-use Rattle.std.specs.Cmp.{eq_by_cmp_equiv}
-use Rattle.std.specs.Cmp.Lexicographic.{slice_cmp, pointwise, nat_list_cmp_total, same_text, texts_ties}
+use Rattle.std.proofs.Common.{◌≡◌, ◌≢◌, ◌∙◌, ◌&&◌, ◌++◌, ℕ, Bool, true, false, not, cond, List, [], ◌∷◌, Option, Some, None, refl, sym, subst, nat_cmp}
+use Rattle.std.specs.Ordering.{is_le, ordering_reverse}
+use Rattle.std.specs.Cmp.Lexicographic.{slice_cmp, nat_list_cmp_total}
 use Rattle.std.specs.declared.cmp.Ordering.{Ordering}
 use Rattle.std.specs.declared.cmp.Ordering.TheVariants.{Less, Equal, Greater}
-use Rattle.module_merge.specs.Image.{is_among, undefined, lesser, IsLeastOf, IsMissing, all_defined, all_used}
-use Rattle.module_merge.specs.Ends.{IsFirstMissing, IsFirstEnd, end_of}
-use Rattle.repeats.specs.Repeats.{IsLeastRepeat}
+use Rattle.module_merge.specs.Image.{undefined, lesser, IsLeastOf, IsMissing, all_defined, all_used}
+use Rattle.module_merge.specs.Ends.{IsFirstMissing}
+use Rattle.ordered_lists.specs.Among.{is_among}
+use Rattle.ordered_lists.proofs.AmongLemmas.{not_below_itself, among_last, among_more, by_place, among_filter}
 
 abbrev order : List ℕ → List ℕ → Ordering
 order = slice_cmp nat_cmp
-
-same_symbol : (s q : List ℕ) → pointwise nat_eq s q ≡ true → s ≡ q
-same_symbol s q e = same_text s q (sym e)
-
-itself : (s : List ℕ) → pointwise nat_eq s s ≡ true
-itself s = texts_ties s s ∙ (eq_by_cmp_equiv nat_list_cmp_total).refl s
-
-not_below_itself : (s : List ℕ) → order s s ≢ Less
-not_below_itself s e = let f : is_eq Less ≡ true = ap is_eq (sym e) ∙ (eq_by_cmp_equiv nat_list_cmp_total).refl s in cc
-
-among-push : (xs : List (List ℕ)) (x q : List ℕ) → is_among (xs ++ x ∷ []) q ≡ is_among xs q || pointwise nat_eq x q
-among-push [] x q = elim (pointwise nat_eq x q) as (λ b. b || false ≡ b) [ true ↦ refl | false ↦ refl ]
-among-push (y ∷ xs) x q = ap (λ b. pointwise nat_eq y q || b) (among-push xs x q) ∙ or_assoc (pointwise nat_eq y q) _ _
-  where
-    or_assoc : (a b c : Bool) → a || (b || c) ≡ (a || b) || c
-    or_assoc true b c = refl
-    or_assoc false b c = refl
-
-by_last : {A : Type 0} (a b : Bool) → a || b ≡ true → (a ≡ true → A) → (b ≡ true → A) → A
-by_last true b e f g = f refl
-by_last false b e f g = g e
-
-or_left : (a b : Bool) → a ≡ true → a || b ≡ true
-or_left true b e = refl
-or_left false b e = cc
-
-or_right : (a b : Bool) → b ≡ true → a || b ≡ true
-or_right true b e = refl
-or_right false b e = e
-
-among_last : (xs : List (List ℕ)) (x : List ℕ) → is_among (xs ++ x ∷ []) x ≡ true
-among_last xs x = among-push xs x x ∙ or_right (is_among xs x) _ (itself x)
-
-among_more : (xs : List (List ℕ)) (x q : List ℕ) → is_among xs q ≡ true → is_among (xs ++ x ∷ []) q ≡ true
-among_more xs x q h = among-push xs x q ∙ or_left (is_among xs q) _ h
-
-by_place : {A : Type 0} (xs : List (List ℕ)) (x q : List ℕ) → is_among (xs ++ x ∷ []) q ≡ true → (is_among xs q ≡ true → A) → (x ≡ q → A) → A
-by_place xs x q h f g = by_last (is_among xs q) (pointwise nat_eq x q) (sym (among-push xs x q) ∙ h) f (λ e. g (same_symbol x q e))
 
 order_back : (x y : List ℕ) → order x y ≡ ordering_reverse (order y x)
 order_back x y = nat_list_cmp_total.antisymm x y
@@ -81,16 +43,6 @@ least_with xs x (Some y) h = elim (is_le (order y x)) as (λ b. is_le (order y x
   | false ↦ λ e. with_lower xs x y h e
 ] refl
 
-at_one : (p : List ℕ → Bool) (q s : List ℕ) (xs : List (List ℕ)) (at test : Bool) → pointwise nat_eq s q ≡ at → p s ≡ test → (at ≡ true → p q ≡ test) → is_among (filter p xs) q ≡ p q && is_among xs q → is_among (cond test (s ∷ filter p xs) (filter p xs)) q ≡ p q && (at || is_among xs q)
-at_one p q s xs true true e f g rest = grind arith
-at_one p q s xs true false e f g rest = grind arith
-at_one p q s xs false true e f g rest = grind arith
-at_one p q s xs false false e f g rest = rest
-
-among_filter : (p : List ℕ → Bool) (q : List ℕ) (xs : List (List ℕ)) → is_among (filter p xs) q ≡ p q && is_among xs q
-among_filter p q [] = elim (p q) as (λ b. false ≡ b && false) [ true ↦ refl | false ↦ refl ]
-among_filter p q (s ∷ xs) = at_one p q s xs (pointwise nat_eq s q) (p s) refl refl (λ e. ap p (sym (same_symbol s q e))) (among_filter p q xs)
-
 missing_parts : (d u : Bool) → not d && u ≡ true → (u ≡ true) × (d ≡ false)
 missing_parts true u e = cc
 missing_parts false u e = (e, refl)
@@ -108,8 +60,3 @@ undefined_is objects symbol h = missing_parts _ _ (sym (among_filter (λ s. not 
 pub first_missing : (objects : List (List ℕ)) (found : Option (List ℕ)) → IsLeastOf (undefined (all_defined objects) (all_used objects)) found → IsFirstMissing objects found
 first_missing objects None h = λ symbol m. let some = among_undefined objects symbol m in let none = h symbol in cc
 first_missing objects (Some symbol) h = (undefined_is objects symbol h.0, λ other m. h.1 other (among_undefined objects other m))
-
-pub no_image : (objects : List (List ℕ)) (twice missing : Option (List ℕ)) → IsLeastRepeat order (all_defined objects) twice → IsFirstMissing objects missing → IsFirstEnd objects (end_of twice missing)
-no_image objects (Some symbol) missing h m = h
-no_image objects None (Some symbol) h m = (h, m)
-no_image objects None None h m = (h, m)

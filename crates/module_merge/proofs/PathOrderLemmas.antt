@@ -1,5 +1,5 @@
 -- Texts in byte order that begin with one word and a path stand by path.
-use Rattle.std.proofs.Common.{◌≡◌, ◌∙◌, ◌&&◌, ◌++◌, ◌+◌, ◌-◌, IsTrue, ℕ, Bool, true, false, not, cond, List, [], ◌∷◌, length, take, drop, All, get_or, refl, sym, ap, subst, suc, arith, codes, nat_cmp, take-append-drop, append_assoc}
+use Rattle.std.proofs.Common.{◌≡◌, ◌∙◌, ◌++◌, ◌+◌, ◌-◌, IsTrue, ℕ, Bool, true, false, not, cond, List, [], ◌∷◌, length, take, drop, All, get_or, refl, sym, ap, subst, suc, arith, codes, nat_cmp, take-append-drop, append_assoc}
 use Rattle.std.specs.List.{before_first, after_first, position_or_len, list_all}
 use Rattle.std.specs.List.Sorted.{IsPermutation, IsSorted}
 use Rattle.std.specs.Ordering.{is_lt, is_eq, ordering_then}
@@ -7,6 +7,7 @@ use Rattle.std.specs.Cmp.{eq_by_cmp_equiv, nat_cmp_total}
 use Rattle.std.specs.Cmp.Lexicographic.{slice_cmp, same_text}
 use Rattle.std.specs.declared.cmp.Ordering.{Ordering}
 use Rattle.std.specs.declared.cmp.Ordering.TheVariants.{Less, Equal, Greater}
+use Rattle.std.proofs.lemmas.Bool.{and_parts}
 use Rattle.std.proofs.lemmas.Bool.Decides.{nat_tests}
 use Rattle.std.proofs.lemmas.List.Sorted.{All-permutation}
 use Rattle.drv_outside.specs.Plain.{is_path_byte, is_plain_path}
@@ -18,14 +19,6 @@ use Rattle.module_merge.proofs.PathLemmas.{path_bytes}
 
 abbrev order : List ℕ → List ℕ → Ordering
 order = slice_cmp nat_cmp
-
-front : (a b : Bool) → a && b ≡ true → a ≡ true
-front true b e = refl
-front false b e = e
-
-back : (a b : Bool) → a && b ≡ true → b ≡ true
-back true b e = e
-back false b e = cc
 
 -- a line feed is below each byte of a path
 below_path_byte : (y : ℕ) → is_path_byte y ≡ true → nat_cmp 10 y ≡ Less
@@ -39,9 +32,9 @@ less_then Greater a b h f = h
 -- What goes on after a lesser path is less, whatever it is.
 lesser_path : (p q r s : List ℕ) → list_all is_path_byte q ≡ true → order p q ≡ Less → order (p ++ 10 ∷ r) (q ++ 10 ∷ s) ≡ Less
 lesser_path [] [] r s h e = cc
-lesser_path [] (y ∷ q) r s h e = ap (λ o. ordering_then o (order r (q ++ 10 ∷ s))) (below_path_byte y (front _ _ h))
+lesser_path [] (y ∷ q) r s h e = ap (λ o. ordering_then o (order r (q ++ 10 ∷ s))) (below_path_byte y (and_parts _ _ h).0)
 lesser_path (x ∷ p) [] r s h e = cc
-lesser_path (x ∷ p) (y ∷ q) r s h e = less_then (nat_cmp x y) (order p q) (order (p ++ 10 ∷ r) (q ++ 10 ∷ s)) e (λ same less. lesser_path p q r s (back (is_path_byte y) _ h) less)
+lesser_path (x ∷ p) (y ∷ q) r s h e = less_then (nat_cmp x y) (order p q) (order (p ++ 10 ∷ r) (q ++ 10 ∷ s)) e (λ same less. lesser_path p q r s (and_parts (is_path_byte y) _ h).1 less)
 
 equal_bytes : (x : ℕ) → nat_cmp x x ≡ Equal
 equal_bytes x = equal (nat_cmp x x) ((eq_by_cmp_equiv nat_cmp_total).refl x)
@@ -75,18 +68,18 @@ cut text h =
 
 heading : (word line : List ℕ) → is_heading word line ≡ true → line ≡ word ++ drop (length word) line
 heading word line h =
-    let same : take (length word) line ≡ word = same_text _ _ (sym (front (begins_with line word) _ h)) in
+    let same : take (length word) line ≡ word = same_text _ _ (sym (and_parts (begins_with line word) _ h).0) in
     sym (take-append-drop (length word) line) ∙ ap (λ w. w ++ drop (length word) line) same
 
 -- a text begins with the word, a path and a line feed
 parts : (word text : List ℕ) → is_headed word text ≡ true → text ≡ word ++ (path_after word text ++ 10 ∷ after_first is_line_feed text)
 parts word text h =
-    cut text (front (has_ended_lines text) _ h)
-    ∙ ap (λ line. line ++ 10 ∷ after_first is_line_feed text) (heading word (first_line text) (back (has_ended_lines text) _ h))
+    cut text (and_parts (has_ended_lines text) _ h).0
+    ∙ ap (λ line. line ++ 10 ∷ after_first is_line_feed text) (heading word (first_line text) (and_parts (has_ended_lines text) _ h).1)
     ∙ append_assoc word (path_after word text) (10 ∷ after_first is_line_feed text)
 
 plain_path : (word text : List ℕ) → is_headed word text ≡ true → is_plain_path (path_after word text) ≡ true
-plain_path word text h = back (begins_with (first_line text) word) _ (back (has_ended_lines text) _ h)
+plain_path word text h = (and_parts (begins_with (first_line text) word) _ (and_parts (has_ended_lines text) _ h).1).1
 
 less_by_path : (word a b : List ℕ) → is_headed word a ≡ true → is_headed word b ≡ true → order (path_after word a) (path_after word b) ≡ Less → order a b ≡ Less
 less_by_path word a b h k e =
@@ -112,4 +105,4 @@ sorted_by_path word texts ordered all moved up =
 
 -- Object texts that ascend stand by path.
 pub objects_by_path : (objects ordered : List (List ℕ)) → All (λ object. IsTrue (is_object object)) objects → IsPermutation objects ordered → IsSorted order ordered → IsByPath (codes "object ") objects ordered
-objects_by_path objects ordered all = sorted_by_path (codes "object ") objects ordered (λ k d h. front (is_headed (codes "object ") (get_or objects k d)) (are_object_lines (get_or objects k d)) (all k d h))
+objects_by_path objects ordered all = sorted_by_path (codes "object ") objects ordered (λ k d h. (and_parts (is_headed (codes "object ") (get_or objects k d)) (are_object_lines (get_or objects k d)) (all k d h)).0)

@@ -20,9 +20,3 @@ IsFirstMissing objects (Some symbol) = IsLeastMissing objects symbol
 abbrev pub IsFirstEnd : List (List ℕ) → Option MergeEnd → Type 0
 IsFirstEnd objects None = AreDistinct (all_defined objects) × AreLinked objects
 IsFirstEnd objects (Some end) = IsEnd objects end
-
--- a symbol that is defined twice comes before one that is missing
-abbrev pub end_of : Option (List ℕ) → Option (List ℕ) → Option MergeEnd
-end_of (Some symbol) missing = Some (Twice symbol)
-end_of None (Some symbol) = Some (Missing symbol)
-end_of None None = None

@@ -1,12 +1,13 @@
 -- The image of a module: which object defines each symbol, and then the objects.
-use Rattle.std.specs.Prelude.{◌≡◌, ◌≢◌, ◌++◌, ℕ, Bool, true, false, if◌then◌else◌, not, filter, Option, Some, None, List, [], ◌∷◌, map, flat_map, drop, length, codes, nat_eq}
-use Rattle.std.specs.List.{list_any, slice_split}
+use Rattle.std.specs.Prelude.{◌≡◌, ◌≢◌, ◌++◌, ℕ, true, false, if◌then◌else◌, not, filter, Option, Some, None, List, [], ◌∷◌, map, flat_map, drop, length, codes}
+use Rattle.std.specs.List.{slice_split}
 use Rattle.std.specs.Ordering.{nat_cmp, is_le}
 use Rattle.std.specs.declared.cmp.Ordering.TheVariants.{Less}
-use Rattle.std.specs.Cmp.Lexicographic.{slice_cmp, pointwise}
+use Rattle.std.specs.Cmp.Lexicographic.{slice_cmp}
 use Rattle.std.specs.BTreeMap.{BTreeMap}
 use Rattle.std.specs.FinMap.{FinMap, insert, empty, entries, from_entries}
-use Rattle.repeats.specs.Repeats.{HasNoRepeat, IsLeastRepeated}
+use Rattle.ordered_lists.specs.Among.{is_among}
+use Rattle.ordered_lists.specs.Repeats.{HasNoRepeat, IsLeastRepeated}
 use Rattle.module_merge.specs.Lines.{is_line_feed, begins_with, text_of}
 use Rattle.module_merge.specs.ByPath.{path_after, IsByPath}
 use Rattle.module_merge.specs.Object.{first_word}
@@ -44,10 +45,6 @@ AreDistinct = HasNoRepeat (slice_cmp nat_cmp)
 -- a symbol is defined twice, and none below it is
 abbrev pub IsLeastTwice : List (List ℕ) → List ℕ → Type 0
 IsLeastTwice objects = IsLeastRepeated (slice_cmp nat_cmp) (all_defined objects)
-
--- whether a symbol is one of these
-abbrev pub is_among : List (List ℕ) → List ℕ → Bool
-is_among symbols symbol = list_any (λ s. pointwise nat_eq s symbol) symbols
 
 -- a symbol is used and not defined
 abbrev pub IsMissing : List (List ℕ) → List ℕ → Type 0

@@ -1,6 +1,6 @@
-pub mod ByPath
-pub mod Ends
-pub mod Image
 pub mod Lines
+pub mod ByPath
 pub mod Module
 pub mod Object
+pub mod Image
+pub mod Ends

@@ -18,6 +18,3 @@ pub use ends::MergeEnd;
 pub use image_text::image;
 pub use module::{is_partial, merged_module};
 pub use object::is_object;
-
-#[cfg(test)]
-mod tests;

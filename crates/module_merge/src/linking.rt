@@ -2,14 +2,15 @@ ghost use Rattle.std.specs.Prelude.{◌≡◌, ℕ, List, IfOk, option_copied};
 ghost use Rattle.std.specs.BTreeSet as sets;
 ghost use Rattle.std.specs.Ordering.{nat_cmp};
 ghost use Rattle.std.specs.Cmp.Lexicographic.{slice_cmp};
-ghost use Rattle.repeats.specs.Repeats.{IsLeastRepeat};
-ghost use Rattle.module_merge.specs.Image.{all_defined, is_among, undefined, lesser, IsLeastOf};
-ghost use Rattle.module_merge.specs.Ends.{IsFirstMissing, IsFirstEnd, end_of};
+ghost use Rattle.ordered_lists.specs.Among.{is_among};
+ghost use Rattle.ordered_lists.specs.Repeats.{IsLeastRepeat};
+ghost use Rattle.module_merge.specs.Image.{all_defined, undefined, lesser, IsLeastOf};
+ghost use Rattle.module_merge.specs.Ends.{IsFirstMissing, IsFirstEnd};
 
 use crate::MergeEnd;
 use crate::symbols::{all_defined, all_used};
 use drv_outside::{NoMemory, Text};
-use repeats::least_repeat;
+use ordered_lists::least_repeat;
 use std::alloc::Global;
 use std::collections::BTreeSet;
 
@@ -88,23 +89,20 @@ fn twice(alloc: Global, objects: &[Text]) -> Result<Option<Text>, NoMemory>
     Ok(symbol)
 }
 
-fn end_of(twice: Option<Text>, missing: Option<Text>) -> Option<MergeEnd>
-    ensures { result ≡ end_of twice missing }
-{
-    match twice {
-        Some(symbol) => Some(MergeEnd::Twice { symbol }),
-        None => match missing {
-            Some(symbol) => Some(MergeEnd::Missing { symbol }),
-            None => None,
-        },
-    }
-}
-
-// What keeps objects from being linked.
+// What keeps objects from being linked: a symbol that is defined twice, and where there is none, one that
+// is missing.
 pub(crate) fn first_end(alloc: Global, objects: &[Text]) -> Result<Option<MergeEnd>, NoMemory>
     ensures { IfOk result (λ end. IsFirstEnd objects.now end) }
 {
     let twice = twice(alloc, objects)?;
-    let missing = missing(alloc, objects)?;
-    Ok(end_of(twice, missing))
+    match twice {
+        Some(symbol) => Ok(Some(MergeEnd::Twice { symbol })),
+        None => {
+            let missing = missing(alloc, objects)?;
+            match missing {
+                Some(symbol) => Ok(Some(MergeEnd::Missing { symbol })),
+                None => Ok(None),
+            }
+        }
+    }
 }

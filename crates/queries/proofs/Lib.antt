@@ -2,3 +2,4 @@ pub mod Growth
 pub mod Solution
 pub mod Coverage
 pub mod Values
+pub mod Needed

@@ -32,7 +32,8 @@ from-round r keys c (suc n) =
 pub solution-runs : {K A : Type 0} (r : Rules K A) (keys : List K) → (k : K) (a : A) → solution r keys k ≡ Some a → run (seen r (solution r keys)) (r.means k) ≡ Ok a
 solution-runs r keys k a h = ok_of-some _ a ((round-grows r (length keys + 1)).at k a h)
 
-run-stops : {K A X : Type 0} (s t : K → Option A) → ((k : K) (a b : A) → s k ≡ Some a → t k ≡ Some b → a ≡ b) → (q : Task K A X) (u : K) →
+-- a task that stops at u with some answers gives nothing with others that agree, before u is known
+pub run-stops : {K A X : Type 0} (s t : K → Option A) → ((k : K) (a b : A) → s k ≡ Some a → t k ≡ Some b → a ≡ b) → (q : Task K A X) (u : K) →
     run s q ≡ Err u → t u ≡ None → ok_of (run t q) ≡ None
 run-stops s t agree (Done y) u h none = cc
 run-stops {K} {A} {X} s t agree (Fetch k g) u h none =

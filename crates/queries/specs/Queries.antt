@@ -93,6 +93,19 @@ pub record IsNeverKnown {K A : Type 0} (r : Rules K A) (k : K) : Type 0 where
 pub record WaitsFor {K A : Type 0} (r : Rules K A) (k u : K) : Type 0 where
   pub at : (n : ℕ) → round r n u ≡ None → round r (suc n) k ≡ None
 
+-- no key has different answers in them
+pub record Agree {K A : Type 0} (s t : K → Option A) : Type 0 where
+  pub at : (k : K) (a b : A) → s k ≡ Some a → t k ≡ Some b → a ≡ b
+
+-- With what is known, a task needs a key: whatever else becomes known, it gives nothing before the key is known.
+pub record Needs {K A X : Type 0} (known : K → Option A) (task : Task K A X) (u : K) : Type 0 where
+  pub at : (later : K → Option A) → Agree known later → later u ≡ None → ok_of (run later task) ≡ None
+
+-- Whatever the answers are, a task that ends gives a value that passes the test.
+abbrev pub Gives : {K A X : Type 0} → (X → Bool) → Task K A X → Type 0
+Gives passes (Done x) = passes x ≡ true
+Gives {K} {A} {X} passes (Fetch k g) = (a : A) → Gives passes (g a)
+
 -- what the tasks give with these answers is among them
 pub record IsClosed {K A : Type 0} (r : Rules K A) (answers : K → Option A) : Type 0 where
   pub at : (k : K) (a : A) → run (seen r answers) (r.means k) ≡ Ok a → seen r answers k ≡ Some a

@@ -6,7 +6,7 @@
 //! Peyton Jones, *Build Systems à la Carte* (2018); the rounds are Kleene's iteration.
 #![tactic(auto)]
 
-ghost use Rattle.queries.specs.Laws.{EachRoundKeepsAnswers, SolutionKnowsEachRound, SolutionIsFixed, SolutionIsLeast, TrueAnswersGiveTrueOnes, StoppedTaskWaits, CirclesAreNeverKnown, UnknownIsNeverKnown, SolutionIsOne, AgreementCovers, AnsweredTaskEnds, TasksCompose};
+ghost use Rattle.queries.specs.Laws.{EachRoundKeepsAnswers, SolutionKnowsEachRound, SolutionIsFixed, SolutionIsLeast, TrueAnswersGiveTrueOnes, StoppedTaskWaits, NeededKeyIsAwaited, CirclesAreNeverKnown, UnknownIsNeverKnown, SolutionIsOne, AgreementCovers, AnsweredTaskEnds, TasksCompose, EqualAnswersGiveEqualValues, GivenValuesPass, TestsCompose, StoppedTaskNeeds, NeedsOfTheFirst, NeedsOfTheNext, NeedsBehindTheEnd};
 
 /// Rounds only add answers, and end in the least answers that the tasks themselves give.
 pub fn solution_laws<K, A>()
@@ -21,6 +21,7 @@ pub fn solution_laws<K, A>()
 pub fn demand_laws<K, A>()
     ensures answers { TrueAnswersGiveTrueOnes K A }
     ensures waits { StoppedTaskWaits K A }
+    ensures awaited { NeededKeyIsAwaited K A }
     ensures circles { CirclesAreNeverKnown K A }
     ensures unknown { UnknownIsNeverKnown K A }
 {}
@@ -30,21 +31,40 @@ pub fn coverage_law<K, A>()
     ensures { AgreementCovers K A }
 {}
 
-/// A task that goes through other tasks gives what they give, and depends on what they do.
-pub fn task_laws<K, A>()
-    ensures answered { AnsweredTaskEnds K A }
-    ensures compose { TasksCompose K A }
+/// A task that goes through other tasks gives what they give, and depends on what they do. What it
+/// gives depends on the answers to its dependencies alone.
+pub fn task_laws<K, A, X, Y>()
+    ensures answered { AnsweredTaskEnds K A X }
+    ensures compose { TasksCompose K A X Y }
+    ensures equal_answers { EqualAnswersGiveEqualValues K A X }
+{}
+
+/// A task of which each end passes a test gives only what passes: so no reading ends with a value
+/// that the test refuses.
+pub fn test_laws<K, A, X, Y>()
+    ensures given { GivenValuesPass K A X }
+    ensures compose { TestsCompose K A X Y }
+{}
+
+/// Which keys a task needs before it can end, whatever else becomes known.
+pub fn need_laws<K, A, X, Y>()
+    ensures stopped { StoppedTaskNeeds K A X }
+    ensures first { NeedsOfTheFirst K A X Y }
+    ensures next { NeedsOfTheNext K A X Y }
+    ensures behind { NeedsBehindTheEnd K A X Y }
 {}
 
 #[cfg(test)]
 mod tests {
-    use super::{coverage_law, demand_laws, solution_laws, task_laws};
+    use super::{coverage_law, demand_laws, need_laws, solution_laws, task_laws, test_laws};
 
     #[test]
     fn laws_hold_at_numbers(_rt: HostRuntime) {
         solution_laws::<u32, u8>();
         demand_laws::<u32, u8>();
         coverage_law::<u32, u8>();
-        task_laws::<u32, u8>();
+        task_laws::<u32, u8, bool, u16>();
+        test_laws::<u32, u8, bool, u16>();
+        need_laws::<u32, u8, bool, u16>();
     }
 }

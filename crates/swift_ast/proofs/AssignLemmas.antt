@@ -1,8 +1,8 @@
 -- Where an assignment stands next: a name and members of it up to `=`.
 use Rattle.std.proofs.Common.{◌≡◌, Bool, true, false, ◌&&◌, ◌||◌, List, [], ◌∷◌, ◌++◌, refl, sym, ◌∙◌, ap, subst}
 use Rattle.std.proofs.lemmas.Bool.{and_parts, and_from, true≢false}
-use Rattle.grammar.specs.Forms.{in_row, all_right, row_on}
-use Rattle.grammar.specs.Faults.{Stops, Taken, Refused}
+use Rattle.grammar.specs.Forms.{in_row, all_well_formed, row_on}
+use Rattle.grammar.specs.Faults.{Stops, Parsed, FailsAt}
 use Rattle.grammar.proofs.Basics.{or_true_left, or_true_right, both_false, not_true, head_of, tail_of, taken_not_refused}
 use Rattle.swift_ast.specs.declared.terminals.Terminal.TheVariants as T
 use Rattle.swift_ast.specs.declared.expressions.Postfix.{Postfix}
@@ -27,7 +27,7 @@ pub record MembersStand (ts : List Leaf) : Type 0 where
   pub assign : Leaf
   pub rest : List Leaf
   pub spelled : ts ≡ in_row member_rule members ++ (assign ∷ rest)
-  pub right : all_right member_rule members ≡ true
+  pub right : all_well_formed member_rule members ≡ true
   pub is_assign : on (is T.Assign) assign ≡ true
 
 members_case : (t u : Leaf) (ts : List Leaf) (b more : Bool) → on (is T.Assign) t ≡ b → (b || (on (is T.Dot) t && (on (is T.Identifier) u && more))) ≡ true → (more ≡ true → MembersStand ts) → MembersStand (t ∷ (u ∷ ts))
@@ -48,7 +48,7 @@ pub record TargetStands (ts : List Leaf) : Type 0 where
   pub target : Target
   pub assign : Leaf
   pub rest : List Leaf
-  pub taken : Taken target_form target (target_form.goes_on target) ts (assign ∷ rest)
+  pub taken : Parsed target_form target (target_form.continues target) ts (assign ∷ rest)
   pub is_assign : on (is T.Assign) assign ≡ true
 
 assign_ends : (ms : List (Leaf × Leaf)) (a : Leaf) (rest : List Leaf) → on (is T.Assign) a ≡ true → Stops (row_on (on (is T.Dot)) member_rule (λ t. false) ms) (a ∷ rest)
@@ -62,41 +62,41 @@ target_stands tells says t ts m h =
       target = record { root = t; members = s.members };
       assign = s.assign;
       rest = s.rest;
-      taken = record { spelled = ap (λ us. t ∷ us) s.spelled; right = and_from (on (is T.Identifier) t) (all_right member_rule s.members) m s.right; stops = assign_ends s.members s.assign s.rest s.is_assign };
+      taken = record { spelled = ap (λ us. t ∷ us) s.spelled; right = and_from (on (is T.Identifier) t) (all_well_formed member_rule s.members) m s.right; stops = assign_ends s.members s.assign s.rest s.is_assign };
       is_assign = s.is_assign;
     }
 
 -- where a target stands before `=`, it is not refused
-pub stands_not_refused : (ts new : List Leaf) → TargetStands ts → Refused target_form ts new → ⊥
+pub stands_not_refused : (ts new : List Leaf) → TargetStands ts → FailsAt target_form ts new → ⊥
 stands_not_refused ts new s r = taken_not_refused s.taken r
 
 -- and behind the target that was taken there is `=`
-pub stands_before : (t : Target) (ts mid : List Leaf) → TargetStands ts → Taken target_form t (target_form.goes_on t) ts mid → (a : Leaf) × (rest : List Leaf) × (mid ≡ a ∷ rest) × (on (is T.Assign) a ≡ true)
+pub stands_before : (t : Target) (ts mid : List Leaf) → TargetStands ts → Parsed target_form t (target_form.continues t) ts mid → (a : Leaf) × (rest : List Leaf) × (mid ≡ a ∷ rest) × (on (is T.Assign) a ≡ true)
 stands_before t ts mid s u = (s.assign, s.rest, (target_one t s.target mid (s.assign ∷ s.rest) u.right s.taken.right u.stops s.taken.stops (sym u.spelled ∙ s.taken.spelled)).1, s.is_assign)
 
 -- ---- a target before `=` is told
 
-members_told : (tells : List Leaf → Bool) → TellsAssign tells → (ms : List (Leaf × Leaf)) (a : Leaf) (rest : List Leaf) → all_right member_rule ms ≡ true → on (is T.Assign) a ≡ true → tells (in_row member_rule ms ++ (a ∷ rest)) ≡ true
+members_told : (tells : List Leaf → Bool) → TellsAssign tells → (ms : List (Leaf × Leaf)) (a : Leaf) (rest : List Leaf) → all_well_formed member_rule ms ≡ true → on (is T.Assign) a ≡ true → tells (in_row member_rule ms ++ (a ∷ rest)) ≡ true
 members_told tells says [] a [] r m = says.one a ∙ m
 members_told tells says [] a (u ∷ rest) r m = says.more a u rest ∙ or_true_left (on (is T.Assign) a) _ m
 members_told tells says (x ∷ ms) a rest r m =
-    let r2 = and_parts (on (is T.Dot) x.0 && on (is T.Identifier) x.1) (all_right member_rule ms) r in
+    let r2 = and_parts (on (is T.Dot) x.0 && on (is T.Identifier) x.1) (all_well_formed member_rule ms) r in
     let r3 = and_parts (on (is T.Dot) x.0) (on (is T.Identifier) x.1) r2.0 in
     says.more x.0 x.1 (in_row member_rule ms ++ (a ∷ rest)) ∙ or_true_right (on (is T.Assign) x.0) _ (and_from (on (is T.Dot) x.0) _ r3.0 (and_from (on (is T.Identifier) x.1) _ r3.1 (members_told tells says ms a rest r2.1 m)))
 
-told : (tells : List Leaf → Bool) → TellsAssign tells → (x : Target) (t : Leaf) (ts : List Leaf) (a : Leaf) (new : List Leaf) → t ∷ ts ≡ target_form.tokens x ++ (a ∷ new) → target_form.is_right x ≡ true → on (is T.Assign) a ≡ true → (on (is T.Identifier) t && tells ts) ≡ true
+told : (tells : List Leaf → Bool) → TellsAssign tells → (x : Target) (t : Leaf) (ts : List Leaf) (a : Leaf) (new : List Leaf) → t ∷ ts ≡ target_form.tokens x ++ (a ∷ new) → target_form.is_well_formed x ≡ true → on (is T.Assign) a ≡ true → (on (is T.Identifier) t && tells ts) ≡ true
 told tells says x t ts a new e r m =
-    let r2 = and_parts (on (is T.Identifier) x.root) (all_right member_rule x.members) r in
+    let r2 = and_parts (on (is T.Identifier) x.root) (all_well_formed member_rule x.members) r in
     and_from (on (is T.Identifier) t) (tells ts) (subst (λ z. on (is T.Identifier) z ≡ true) (sym (head_of t x.root ts (in_row member_rule x.members ++ (a ∷ new)) e)) r2.0)
     (subst (λ us. tells us ≡ true) (sym (tail_of t x.root ts (in_row member_rule x.members ++ (a ∷ new)) e)) (members_told tells says x.members a new r2.1 m))
 
 target_spelled : (p : Postfix) (t : Leaf) (ts new : List Leaf) → t ∷ ts ≡ postfix_form.tokens p ++ new → is_target p ≡ true → t ∷ ts ≡ target_form.tokens (target_of p) ++ new
 target_spelled p t ts new e m = e ∙ ap (λ us. us ++ new) (ap (λ z. postfix_form.tokens z) (sym (named_back p m)) ∙ target_tokens (target_of p))
 
-target_right_of : (p : Postfix) → postfix_form.is_right p ≡ true → is_target p ≡ true → target_form.is_right (target_of p) ≡ true
-target_right_of p r m = target_right_back (target_of p) (ap (λ z. postfix_form.is_right z) (named_back p m) ∙ r)
+target_right_of : (p : Postfix) → postfix_form.is_well_formed p ≡ true → is_target p ≡ true → target_form.is_well_formed (target_of p) ≡ true
+target_right_of p r m = target_right_back (target_of p) (ap (λ z. postfix_form.is_well_formed z) (named_back p m) ∙ r)
 
 -- where no assignment stands, a target that was taken as a postfix has no `=` behind it
-pub no_assign_behind : (tells : List Leaf → Bool) → TellsAssign tells → (p : Postfix) {e : Leaf → Bool} (t : Leaf) (ts new : List Leaf) → Taken postfix_form p e (t ∷ ts) new → (on (is T.Identifier) t && tells ts) ≡ false → is_target p ≡ true → Stops (on (is T.Assign)) new
+pub no_assign_behind : (tells : List Leaf → Bool) → TellsAssign tells → (p : Postfix) {e : Leaf → Bool} (t : Leaf) (ts new : List Leaf) → Parsed postfix_form p e (t ∷ ts) new → (on (is T.Identifier) t && tells ts) ≡ false → is_target p ≡ true → Stops (on (is T.Assign)) new
 no_assign_behind tells says p {e} t ts [] u h m = tt
 no_assign_behind tells says p {e} t ts (a ∷ new) u h m = not_true (on (is T.Assign) a) (λ k. both_false (on (is T.Identifier) t && tells ts) h (told tells says (target_of p) t ts a new (target_spelled p t ts (a ∷ new) u.spelled m) (target_right_of p u.right m) k))

@@ -1,8 +1,8 @@
--- What the trees of declarations begin with and go on with, and that no two of them have the same tokens.
+-- What the trees of declarations begin with and continue with, and that no two of them have the same tokens.
 use Rattle.std.proofs.Common.{◌≡◌, ℕ, Bool, true, false, [], ◌∷◌, ◌++◌, Option, refl, ◌⊎◌, inl, inr}
 use Rattle.std.proofs.lemmas.Bool.{and_parts, and_from}
-use Rattle.grammar.specs.Forms.{Form, token, both, perhaps, lines, either, either_right, beginning}
-use Rattle.grammar.specs.Faults.{OneTo, One, Begun, Begins, ApartAll, GoesOnWith, Follows, FollowsOn}
+use Rattle.grammar.specs.Forms.{Form, token, both, perhaps, lines, either, either_well_formed, beginning}
+use Rattle.grammar.specs.Faults.{IsUnambiguousBelow, IsUnambiguous, StartsWithin, Begins, NeverContinuesWith, ContinuesWith, Follows, FollowsOn}
 use Rattle.grammar.proofs.Basics.{one_of_any, one_to, goes_apart, goes_more, weaker_begun, ends_goes, ends_apart, stops_nothing}
 use Rattle.grammar.proofs.Sequences.{token_one, token_is_one, token_begun, both_begun, both_goes, both_some, ended_follows, begun_follows, Joins, joined_one, behind_token_one, both_on_one, both_on_begun}
 use Rattle.grammar.proofs.Rows.{Chains, chain_trails, trails_one, trail_begun_by, chain_goes, Rows, rows_one}
@@ -39,13 +39,13 @@ use Rattle.swift_ast.proofs.DeclarationShows.{access_shows, global_shows, TypedP
 
 -- ---- access
 
-pub access_begun : Begun (on is_access) access_form
+pub access_begun : StartsWithin (on is_access) access_form
 access_begun = shown_begun (on is_access) access_shows (token_begun (on is_access))
 
-pub access_ends : (x : Access) (t : Leaf) → access_form.goes_on x t ≡ false
+pub access_ends : (x : Access) (t : Leaf) → access_form.continues x t ≡ false
 access_ends = shown_ends access_shows (λ x t. refl)
 
-pub access_one : One access_form
+pub access_one : IsUnambiguous access_form
 access_one = shown_is_one access_shows (token_is_one (on is_access))
 
 pub access_optional : Optional (on is_access) access_form
@@ -55,21 +55,21 @@ abbrev pub access_rule : Form Leaf (Option Access)
 access_rule = perhaps (on is_access) access_form
 
 -- a declaration behind its access
-access_follows : {X : Type 0} (begins : Test) (f : Form Leaf X) → Rattle.grammar.specs.Tests.are_apart begins is_access Rattle.swift_ast.specs.Terminals.terminals ≡ true → Begun (on begins) f → Follows access_rule f
+access_follows : {X : Type 0} (begins : Test) (f : Form Leaf X) → Rattle.grammar.specs.Tests.are_apart begins is_access Rattle.swift_ast.specs.Terminals.terminals ≡ true → StartsWithin (on begins) f → Follows access_rule f
 access_follows begins f e begun = perhaps_follows (on is_access) access_form f (on begins) begun (apart begins is_access e) (ends_apart (on begins) access_form access_ends)
 
 -- ---- parameters
 
-typed_begun : Begun (on (is T.Colon)) typed_form
+typed_begun : StartsWithin (on (is T.Colon)) typed_form
 typed_begun = both_begun (on (is T.Colon)) (word T.Colon) type_form (token_begun (on (is T.Colon)))
 
-typed_one : One typed_form
+typed_one : IsUnambiguous typed_form
 typed_one = behind_token_one (on (is T.Colon)) type_form type_one
 
 pub typed_some : Begins typed_form []
 typed_some = both_some (word T.Colon) type_form (some_token (is T.Colon) false T.Colon refl) type_some
 
-name_typed_begun : Begun (on (is T.Identifier)) name_typed_form
+name_typed_begun : StartsWithin (on (is T.Identifier)) name_typed_form
 name_typed_begun = both_begun (on (is T.Identifier)) (word T.Identifier) typed_form (token_begun (on (is T.Identifier)))
 
 pub name_typed_some : Begins name_typed_form []
@@ -81,27 +81,27 @@ tail_choices = record { left = name_typed_begun; right = typed_begun; apart = ap
 abbrev TailParts : Type 0
 TailParts = (Leaf × TypedParts) ⊎ TypedParts
 
-pub tail_either : (t : Leaf) (p : TailParts) → tail_right t p ≡ true → either_right name_typed_form typed_form p ≡ true
+pub tail_either : (t : Leaf) (p : TailParts) → tail_right t p ≡ true → either_well_formed name_typed_form typed_form p ≡ true
 tail_either t (inl p) r = r
-tail_either t (inr p) r = (and_parts (on (is T.Identifier) t) (typed_form.is_right p) r).1
+tail_either t (inr p) r = (and_parts (on (is T.Identifier) t) (typed_form.is_well_formed p) r).1
 
-tail_ends : (t : Leaf) (p : TailParts) (u : Leaf) → (tail_form t).goes_on p u ≡ false
+tail_ends : (t : Leaf) (p : TailParts) (u : Leaf) → (tail_form t).continues p u ≡ false
 tail_ends t (inl p) u = refl
 tail_ends t (inr p) u = refl
 
-tail_one : (t : Leaf) (n : ℕ) → OneTo n (tail_form t)
+tail_one : (t : Leaf) (n : ℕ) → IsUnambiguousBelow n (tail_form t)
 tail_one t n x y v w small rx ry sv sw e = choice_one n tail_choices (one_to name_typed_form (behind_token_one (on (is T.Identifier)) typed_form typed_one) n) (one_to typed_form typed_one n) x y v w small (tail_either t x rx) (tail_either t y ry) sv sw e
 
 pub tail_follows : FollowsOn (token (on is_label)) tail_form
 tail_follows t y w r s = stops_nothing ((tail_form t).tokens y ++ w)
 
-pub param_one : One param_form
+pub param_one : IsUnambiguous param_form
 param_one = shown_is_one param_shows (one_of_any param_words (λ n. both_on_one (token (on is_label)) tail_form n tail_follows (token_one (on is_label) n) (λ t. tail_one t n)))
 
-pub param_begun : Begun (on is_label) param_form
+pub param_begun : StartsWithin (on is_label) param_form
 param_begun = shown_begun (on is_label) param_shows (both_on_begun (on is_label) (token (on is_label)) tail_form (token_begun (on is_label)))
 
-pub param_ends : (x : Param) (t : Leaf) → param_form.goes_on x t ≡ false
+pub param_ends : (x : Param) (t : Leaf) → param_form.continues x t ≡ false
 param_ends = shown_ends param_shows (λ p t. tail_ends p.0 p.1 t)
 
 -- each word of a label begins a parameter
@@ -121,13 +121,13 @@ param_some = shown_begins param_shows (record { tree = (label_begins some_label 
 pub param_chains : Chains (on (is T.Comma)) (word T.Comma) param_form
 param_chains = record { begun = token_begun (on (is T.Comma)); ends = λ m t. refl; apart = ends_apart (on (is T.Comma)) param_form param_ends; marks = token_is_one (on (is T.Comma)); one = param_one; some = param_some }
 
-param_list_one : One param_list_form
+param_list_one : IsUnambiguous param_list_form
 param_list_one = trails_one (chain_trails param_chains)
 
-param_list_begun : Begun (on is_label) param_list_form
+param_list_begun : StartsWithin (on is_label) param_list_form
 param_list_begun = trail_begun_by (on is_label) (on (is T.Comma)) param_form (both (word T.Comma) param_form) param_begun
 
-param_list_apart : ApartAll (on (is T.RightParenthesis)) param_list_form
+param_list_apart : NeverContinuesWith (on (is T.RightParenthesis)) param_list_form
 param_list_apart = goes_apart (on (is T.RightParenthesis)) (on (is T.Comma)) param_list_form (chain_goes (on (is T.Comma)) (on (is T.Comma)) (word T.Comma) param_form (λ t m. m) (ends_goes (on (is T.Comma)) param_form param_ends)) (apart (is T.RightParenthesis) (is T.Comma) refl)
 
 pub params_optional : Optional (on is_label) param_list_form
@@ -135,7 +135,7 @@ params_optional = record { begun = param_list_begun; one = param_list_one }
 
 -- ---- functions
 
-arrow_begun : Begun (on (is T.Arrow)) (both (word T.Arrow) type_form)
+arrow_begun : StartsWithin (on (is T.Arrow)) (both (word T.Arrow) type_form)
 arrow_begun = both_begun (on (is T.Arrow)) (word T.Arrow) type_form (token_begun (on (is T.Arrow)))
 
 pub result_optional : Optional (on (is T.Arrow)) (both (word T.Arrow) type_form)
@@ -156,7 +156,7 @@ closed_form = both (word T.RightParenthesis) result_body_form
 pub closed_some : Begins closed_form []
 closed_some = both_some (word T.RightParenthesis) result_body_form (some_token (is T.RightParenthesis) false T.RightParenthesis refl) result_body_some
 
-closed_begun : Begun (on (is T.RightParenthesis)) closed_form
+closed_begun : StartsWithin (on (is T.RightParenthesis)) closed_form
 closed_begun = both_begun (on (is T.RightParenthesis)) (word T.RightParenthesis) result_body_form (token_begun (on (is T.RightParenthesis)))
 
 pub params_joins : Joins params_rule closed_form
@@ -180,13 +180,13 @@ func_name_form = both (word T.Identifier) opened_form
 pub func_name_some : Begins func_name_form []
 func_name_some = both_some (word T.Identifier) opened_form (some_token (is T.Identifier) false T.Identifier refl) opened_some
 
-pub func_one : One func_form
+pub func_one : IsUnambiguous func_form
 func_one = shown_is_one func_shows (behind_token_one (on (is T.Func)) func_name_form (behind_token_one (on (is T.Identifier)) opened_form (behind_token_one (on (is T.LeftParenthesis)) params_closed_form (joined_one params_joins (behind_token_one (on (is T.RightParenthesis)) result_body_form (joined_one result_joins block_one))))))
 
-pub func_begun : Begun (on (is T.Func)) func_form
+pub func_begun : StartsWithin (on (is T.Func)) func_form
 func_begun = shown_begun (on (is T.Func)) func_shows (both_begun (on (is T.Func)) (word T.Func) func_name_form (token_begun (on (is T.Func))))
 
-pub func_ends : (x : Func) (t : Leaf) → func_form.goes_on x t ≡ false
+pub func_ends : (x : Func) (t : Leaf) → func_form.continues x t ≡ false
 func_ends = shown_ends func_shows (λ p t. block_ends p.1.1.1.1.1.1 t)
 
 -- ---- stored and computed properties
@@ -197,10 +197,10 @@ initial_optional = record { begun = valued_begun; one = valued_one }
 abbrev pub property_on : Test
 property_on = or begins_tail expr_on
 
-expr_goes_property : GoesOnWith (on property_on) expr_form
+expr_goes_property : ContinuesWith (on property_on) expr_form
 expr_goes_property = goes_more (on expr_on) (on property_on) expr_form expr_goes (within expr_on property_on refl)
 
-initial_goes : GoesOnWith (on property_on) initial_rule
+initial_goes : ContinuesWith (on property_on) initial_rule
 initial_goes = perhaps_goes (on property_on) (on (is T.Assign)) valued_form (within (is T.Assign) property_on refl) (both_goes (on property_on) (word T.Assign) expr_form expr_goes_property)
 
 abbrev pub type_initial_form : Form Leaf (TypeName × Option (Leaf × Expr))
@@ -212,16 +212,16 @@ type_initial_joins = record { follows = ended_follows type_form initial_rule (λ
 pub type_initial_some : Begins type_initial_form []
 type_initial_some = both_some type_form initial_rule type_some (perhaps_some (on (is T.Assign)) valued_form)
 
-typed_rule_begun : Begun (on (is T.Colon)) typed_rule
+typed_rule_begun : StartsWithin (on (is T.Colon)) typed_rule
 typed_rule_begun = both_begun (on (is T.Colon)) (word T.Colon) type_initial_form (token_begun (on (is T.Colon)))
 
 pub stored_choices : Choices (on (is T.Colon)) (on (is T.Assign)) typed_rule inferred_rule
 stored_choices = record { left = typed_rule_begun; right = valued_begun; apart = apart (is T.Colon) (is T.Assign) refl }
 
-pub stored_value_one : One stored_value_form
+pub stored_value_one : IsUnambiguous stored_value_form
 stored_value_one = shown_is_one stored_value_shows (choice_is_one stored_choices (behind_token_one (on (is T.Colon)) type_initial_form (joined_one type_initial_joins (optional_one initial_optional))) valued_one)
 
-stored_value_goes : GoesOnWith (on property_on) stored_value_form
+stored_value_goes : ContinuesWith (on property_on) stored_value_form
 stored_value_goes = shown_goes (on property_on) stored_value_shows (either_goes (on property_on) typed_rule inferred_rule (both_goes (on property_on) (word T.Colon) type_initial_form (both_goes (on property_on) type_form initial_rule initial_goes)) (both_goes (on property_on) (word T.Assign) expr_form expr_goes_property))
 
 pub stored_value_some : Begins stored_value_form []
@@ -248,13 +248,13 @@ computed_name_form = both (word T.Identifier) colon_body_form
 pub computed_name_some : Begins computed_name_form []
 computed_name_some = both_some (word T.Identifier) colon_body_form (some_token (is T.Identifier) false T.Identifier refl) colon_body_some
 
-pub computed_one : One computed_form
+pub computed_one : IsUnambiguous computed_form
 computed_one = shown_is_one computed_shows (behind_token_one (on (is T.Var)) computed_name_form (behind_token_one (on (is T.Identifier)) colon_body_form (behind_token_one (on (is T.Colon)) typed_body_form (joined_one type_body_joins block_one))))
 
-pub computed_begun : Begun (on (is T.Var)) computed_form
+pub computed_begun : StartsWithin (on (is T.Var)) computed_form
 computed_begun = shown_begun (on (is T.Var)) computed_shows (both_begun (on (is T.Var)) (word T.Var) computed_name_form (token_begun (on (is T.Var))))
 
-pub computed_ends : (x : Computed) (t : Leaf) → computed_form.goes_on x t ≡ false
+pub computed_ends : (x : Computed) (t : Leaf) → computed_form.continues x t ≡ false
 computed_ends = shown_ends computed_shows (λ p t. block_ends p.1.1.1.1 t)
 
 -- ---- members of a struct
@@ -262,7 +262,7 @@ computed_ends = shown_ends computed_shows (λ p t. block_ends p.1.1.1.1 t)
 pub body_choices : Choices (on (is T.Assign)) (on (is T.LeftBrace)) valued_form block_form
 body_choices = record { left = valued_begun; right = block_begun; apart = apart (is T.Assign) (is T.LeftBrace) refl }
 
-value_or_body_goes : GoesOnWith (on property_on) value_or_body_form
+value_or_body_goes : ContinuesWith (on property_on) value_or_body_form
 value_or_body_goes = either_goes (on property_on) valued_form block_form (both_goes (on property_on) (word T.Assign) expr_form expr_goes_property) (ends_goes (on property_on) block_form block_ends)
 
 pub var_tail_optional : Optional (on begins_tail) value_or_body_form
@@ -277,7 +277,7 @@ type_tail_form = both type_form var_tail_form
 pub type_tail_some : Begins type_tail_form []
 type_tail_some = both_some type_form var_tail_form type_some (perhaps_some (on begins_tail) value_or_body_form)
 
-var_typed_begun : Begun (on (is T.Colon)) var_typed_form
+var_typed_begun : StartsWithin (on (is T.Colon)) var_typed_form
 var_typed_begun = both_begun (on (is T.Colon)) (word T.Colon) type_tail_form (token_begun (on (is T.Colon)))
 
 pub var_choices : Choices (on (is T.Colon)) (on (is T.Assign)) var_typed_form valued_form
@@ -286,10 +286,10 @@ var_choices = record { left = var_typed_begun; right = valued_begun; apart = apa
 pub var_rest_some : Begins var_rest_form []
 var_rest_some = record { tree = inr valued_some.tree; more = valued_some.more; right = valued_some.right; spelled = valued_some.spelled }
 
-var_rest_one : One var_rest_form
+var_rest_one : IsUnambiguous var_rest_form
 var_rest_one = choice_is_one var_choices (behind_token_one (on (is T.Colon)) type_tail_form (joined_one var_type_joins (optional_one var_tail_optional))) valued_one
 
-var_rest_goes : GoesOnWith (on property_on) var_rest_form
+var_rest_goes : ContinuesWith (on property_on) var_rest_form
 var_rest_goes = either_goes (on property_on) var_typed_form valued_form
     (both_goes (on property_on) (word T.Colon) type_tail_form (both_goes (on property_on) type_form var_tail_form (perhaps_goes (on property_on) (on begins_tail) value_or_body_form (within begins_tail property_on refl) value_or_body_goes)))
     (both_goes (on property_on) (word T.Assign) expr_form expr_goes_property)
@@ -306,10 +306,10 @@ let_name_form = both (word T.Identifier) stored_value_form
 pub let_name_some : Begins let_name_form []
 let_name_some = both_some (word T.Identifier) stored_value_form (some_token (is T.Identifier) false T.Identifier refl) stored_value_some
 
-let_begun : Begun (on (is T.Let)) let_form
+let_begun : StartsWithin (on (is T.Let)) let_form
 let_begun = both_begun (on (is T.Let)) (word T.Let) let_name_form (token_begun (on (is T.Let)))
 
-var_begun : Begun (on (is T.Var)) var_form
+var_begun : StartsWithin (on (is T.Var)) var_form
 var_begun = both_begun (on (is T.Var)) (word T.Var) var_name_form (token_begun (on (is T.Var)))
 
 pub var_func_choices : Choices (on (is T.Var)) (on (is T.Func)) var_form func_form
@@ -324,14 +324,14 @@ struct_member_choices = record { left = let_begun; right = choice_begun var_func
 abbrev pub at_let : Test
 at_let = or (is T.Let) at_var
 
-pub struct_member_one : One struct_member_form
+pub struct_member_one : IsUnambiguous struct_member_form
 struct_member_one = shown_is_one struct_member_shows (choice_is_one struct_member_choices (behind_token_one (on (is T.Let)) let_name_form (behind_token_one (on (is T.Identifier)) stored_value_form stored_value_one))
     (choice_is_one var_func_choices (behind_token_one (on (is T.Var)) var_name_form (behind_token_one (on (is T.Identifier)) var_rest_form var_rest_one)) func_one))
 
-pub struct_member_begun : Begun (on at_let) struct_member_form
+pub struct_member_begun : StartsWithin (on at_let) struct_member_form
 struct_member_begun = shown_begun (on at_let) struct_member_shows (choice_begun struct_member_choices)
 
-pub struct_member_goes : GoesOnWith (on property_on) struct_member_form
+pub struct_member_goes : ContinuesWith (on property_on) struct_member_form
 struct_member_goes = shown_goes (on property_on) struct_member_shows
     (either_goes (on property_on) let_form (either var_form func_form) (both_goes (on property_on) (word T.Let) let_name_form (both_goes (on property_on) (word T.Identifier) stored_value_form stored_value_goes))
     (either_goes (on property_on) var_form func_form (both_goes (on property_on) (word T.Var) var_name_form (both_goes (on property_on) (word T.Identifier) var_rest_form var_rest_goes)) (ends_goes (on property_on) func_form func_ends)))
@@ -356,10 +356,10 @@ struct_line_form = with_access struct_member_form
 pub struct_line_joins : Joins access_rule struct_member_form
 struct_line_joins = record { follows = access_follows at_let struct_member_form refl struct_member_begun; one = optional_one access_optional; some = stands_begins struct_member_stands }
 
-pub struct_line_begun : Begun (on begins_struct_member) struct_line_form
+pub struct_line_begun : StartsWithin (on begins_struct_member) struct_line_form
 struct_line_begun = weaker_begun (on (or is_access at_let)) (on begins_struct_member) struct_line_form (within (or is_access at_let) begins_struct_member refl) (optional_begun (on is_access) (on is_access) (on at_let) access_form struct_member_form access_begun struct_member_begun)
 
-struct_line_goes : GoesOnWith (on property_on) struct_line_form
+struct_line_goes : ContinuesWith (on property_on) struct_line_form
 struct_line_goes = both_goes (on property_on) access_rule struct_member_form struct_member_goes
 
 struct_line_stands : Stands (on (on_new_line begins_struct_member)) struct_line_form
@@ -380,7 +380,7 @@ struct_members_form = lines (on begins_struct_member) (on (on_new_line begins_st
 abbrev members_on : Test
 members_on = or begins_struct_member property_on
 
-struct_members_goes : GoesOnWith (on members_on) struct_members_form
+struct_members_goes : ContinuesWith (on members_on) struct_members_form
 struct_members_goes = lines_goes (on members_on) (on begins_struct_member) (on (on_new_line begins_struct_member)) struct_line_form (within begins_struct_member members_on refl) (within (on_new_line begins_struct_member) members_on refl) (goes_more (on property_on) (on members_on) struct_line_form struct_line_goes (within property_on members_on refl))
 
 brace_some : Begins (word T.RightBrace) []
@@ -407,13 +407,13 @@ struct_name_form = both (word T.Identifier) struct_body_form
 pub struct_name_some : Begins struct_name_form []
 struct_name_some = both_some (word T.Identifier) struct_body_form (some_token (is T.Identifier) false T.Identifier refl) struct_body_some
 
-pub struct_one : One struct_form
+pub struct_one : IsUnambiguous struct_form
 struct_one = shown_is_one struct_shows (behind_token_one (on (is T.Struct)) struct_name_form (behind_token_one (on (is T.Identifier)) struct_body_form (behind_token_one (on (is T.LeftBrace)) struct_inside_form (joined_one struct_members_joins (token_is_one (on (is T.RightBrace)))))))
 
-pub struct_begun : Begun (on (is T.Struct)) struct_form
+pub struct_begun : StartsWithin (on (is T.Struct)) struct_form
 struct_begun = shown_begun (on (is T.Struct)) struct_shows (both_begun (on (is T.Struct)) (word T.Struct) struct_name_form (token_begun (on (is T.Struct))))
 
-pub struct_ends : (x : Struct) (t : Leaf) → struct_form.goes_on x t ≡ false
+pub struct_ends : (x : Struct) (t : Leaf) → struct_form.continues x t ≡ false
 struct_ends = shown_ends struct_shows (λ p t. refl)
 
 -- ---- extensions
@@ -421,13 +421,13 @@ struct_ends = shown_ends struct_shows (λ p t. refl)
 pub extension_member_choices : Choices (on (is T.Var)) (on (is T.Func)) computed_form func_form
 extension_member_choices = record { left = computed_begun; right = func_begun; apart = apart (is T.Var) (is T.Func) refl }
 
-pub extension_member_one : One extension_member_form
+pub extension_member_one : IsUnambiguous extension_member_form
 extension_member_one = shown_is_one extension_member_shows (choice_is_one extension_member_choices computed_one func_one)
 
-pub extension_member_begun : Begun (on at_var) extension_member_form
+pub extension_member_begun : StartsWithin (on at_var) extension_member_form
 extension_member_begun = shown_begun (on at_var) extension_member_shows (choice_begun extension_member_choices)
 
-pub extension_member_ends : (x : ExtensionMember) (t : Leaf) → extension_member_form.goes_on x t ≡ false
+pub extension_member_ends : (x : ExtensionMember) (t : Leaf) → extension_member_form.continues x t ≡ false
 extension_member_ends = shown_ends extension_member_shows (either_ends computed_form func_form computed_ends func_ends)
 
 new_func : Leaf
@@ -458,10 +458,10 @@ extension_line_form = with_access extension_member_form
 pub extension_line_joins : Joins access_rule extension_member_form
 extension_line_joins = record { follows = access_follows at_var extension_member_form refl extension_member_begun; one = optional_one access_optional; some = stands_begins extension_member_stands }
 
-pub extension_line_begun : Begun (on begins_extension_member) extension_line_form
+pub extension_line_begun : StartsWithin (on begins_extension_member) extension_line_form
 extension_line_begun = weaker_begun (on (or is_access at_var)) (on begins_extension_member) extension_line_form (within (or is_access at_var) begins_extension_member refl) (optional_begun (on is_access) (on is_access) (on at_var) access_form extension_member_form access_begun extension_member_begun)
 
-extension_line_ends : (x : Option Access × ExtensionMember) (t : Leaf) → extension_line_form.goes_on x t ≡ false
+extension_line_ends : (x : Option Access × ExtensionMember) (t : Leaf) → extension_line_form.continues x t ≡ false
 extension_line_ends x t = extension_member_ends x.1 t
 
 extension_line_stands : Stands (on (on_new_line begins_extension_member)) extension_line_form
@@ -479,7 +479,7 @@ extension_lines = record {
 abbrev pub extension_members_form : Form Leaf ExtensionMembers
 extension_members_form = lines (on begins_extension_member) (on (on_new_line begins_extension_member)) extension_line_form
 
-extension_members_goes : GoesOnWith (on begins_extension_member) extension_members_form
+extension_members_goes : ContinuesWith (on begins_extension_member) extension_members_form
 extension_members_goes = lines_goes (on begins_extension_member) (on begins_extension_member) (on (on_new_line begins_extension_member)) extension_line_form (λ t m. m) (within (on_new_line begins_extension_member) begins_extension_member refl) (ends_goes (on begins_extension_member) extension_line_form extension_line_ends)
 
 pub extension_members_joins : Joins extension_members_form (word T.RightBrace)
@@ -503,13 +503,13 @@ extension_name_form = both (word T.Identifier) extension_body_form
 pub extension_name_some : Begins extension_name_form []
 extension_name_some = both_some (word T.Identifier) extension_body_form (some_token (is T.Identifier) false T.Identifier refl) extension_body_some
 
-pub extension_one : One extension_form
+pub extension_one : IsUnambiguous extension_form
 extension_one = shown_is_one extension_shows (behind_token_one (on (is T.Extension)) extension_name_form (behind_token_one (on (is T.Identifier)) extension_body_form (behind_token_one (on (is T.LeftBrace)) extension_inside_form (joined_one extension_members_joins (token_is_one (on (is T.RightBrace)))))))
 
-pub extension_begun : Begun (on (is T.Extension)) extension_form
+pub extension_begun : StartsWithin (on (is T.Extension)) extension_form
 extension_begun = shown_begun (on (is T.Extension)) extension_shows (both_begun (on (is T.Extension)) (word T.Extension) extension_name_form (token_begun (on (is T.Extension))))
 
-pub extension_ends : (x : Extension) (t : Leaf) → extension_form.goes_on x t ≡ false
+pub extension_ends : (x : Extension) (t : Leaf) → extension_form.continues x t ≡ false
 extension_ends = shown_ends extension_shows (λ p t. refl)
 
 -- ---- aliases
@@ -526,13 +526,13 @@ alias_name_form = both (word T.Identifier) assign_type_form
 pub alias_name_some : Begins alias_name_form []
 alias_name_some = both_some (word T.Identifier) assign_type_form (some_token (is T.Identifier) false T.Identifier refl) assign_type_some
 
-pub alias_one : One alias_form
+pub alias_one : IsUnambiguous alias_form
 alias_one = shown_is_one alias_shows (behind_token_one (on (is T.Typealias)) alias_name_form (behind_token_one (on (is T.Identifier)) assign_type_form (behind_token_one (on (is T.Assign)) type_form type_one)))
 
-pub alias_begun : Begun (on (is T.Typealias)) alias_form
+pub alias_begun : StartsWithin (on (is T.Typealias)) alias_form
 alias_begun = shown_begun (on (is T.Typealias)) alias_shows (both_begun (on (is T.Typealias)) (word T.Typealias) alias_name_form (token_begun (on (is T.Typealias))))
 
-pub alias_ends : (x : Alias) (t : Leaf) → alias_form.goes_on x t ≡ false
+pub alias_ends : (x : Alias) (t : Leaf) → alias_form.continues x t ≡ false
 alias_ends = shown_ends alias_shows (λ p t. refl)
 
 pub alias_some : Begins alias_form []
@@ -540,13 +540,13 @@ alias_some = shown_begins alias_shows (both_some (word T.Typealias) alias_name_f
 
 -- ---- declarations
 
-pub global_one : One global_form
+pub global_one : IsUnambiguous global_form
 global_one = shown_is_one global_shows binding_one
 
-pub global_begun : Begun (on is_specifier) global_form
+pub global_begun : StartsWithin (on is_specifier) global_form
 global_begun = shown_begun (on is_specifier) global_shows binding_begun
 
-pub global_goes : GoesOnWith (on expr_on) global_form
+pub global_goes : ContinuesWith (on expr_on) global_form
 global_goes = shown_goes (on expr_on) global_shows binding_goes
 
 abbrev pub at_struct : Test
@@ -567,13 +567,13 @@ func_choices = record { left = func_begun; right = choice_begun struct_choices; 
 pub global_choices : Choices (on is_specifier) (on at_func) global_form (either func_form (either struct_form alias_form))
 global_choices = record { left = global_begun; right = choice_begun func_choices; apart = apart is_specifier at_func refl }
 
-pub named_one : One named_form
+pub named_one : IsUnambiguous named_form
 named_one = shown_is_one named_shows (choice_is_one global_choices global_one (choice_is_one func_choices func_one (choice_is_one struct_choices struct_one alias_one)))
 
-pub named_begun : Begun (on at_named) named_form
+pub named_begun : StartsWithin (on at_named) named_form
 named_begun = shown_begun (on at_named) named_shows (choice_begun global_choices)
 
-pub named_goes : GoesOnWith (on expr_on) named_form
+pub named_goes : ContinuesWith (on expr_on) named_form
 named_goes = shown_goes (on expr_on) named_shows (either_goes (on expr_on) global_form (either func_form (either struct_form alias_form)) global_goes
     (either_goes (on expr_on) func_form (either struct_form alias_form) (ends_goes (on expr_on) func_form func_ends) (either_goes (on expr_on) struct_form alias_form (ends_goes (on expr_on) struct_form struct_ends) (ends_goes (on expr_on) alias_form alias_ends))))
 
@@ -589,19 +589,19 @@ named_joins = record { follows = access_follows at_named named_form refl named_b
 abbrev pub at_access : Test
 at_access = or is_access at_named
 
-access_named_begun : Begun (on at_access) access_named_form
+access_named_begun : StartsWithin (on at_access) access_named_form
 access_named_begun = optional_begun (on is_access) (on is_access) (on at_named) access_form named_form access_begun named_begun
 
 pub decl_choices : Choices (on at_access) (on (is T.Extension)) access_named_form extension_form
 decl_choices = record { left = access_named_begun; right = extension_begun; apart = apart at_access (is T.Extension) refl }
 
-pub decl_one : One decl_form
+pub decl_one : IsUnambiguous decl_form
 decl_one = shown_is_one decl_shows (choice_is_one decl_choices (joined_one named_joins named_one) extension_one)
 
-pub decl_begun : Begun (on begins_decl) decl_form
+pub decl_begun : StartsWithin (on begins_decl) decl_form
 decl_begun = shown_begun (on begins_decl) decl_shows (weaker_begun (on (or at_access (is T.Extension))) (on begins_decl) decl_rule (within (or at_access (is T.Extension)) begins_decl refl) (choice_begun decl_choices))
 
-pub decl_goes : GoesOnWith (on expr_on) decl_form
+pub decl_goes : ContinuesWith (on expr_on) decl_form
 decl_goes = shown_goes (on expr_on) decl_shows (either_goes (on expr_on) access_named_form extension_form (both_goes (on expr_on) access_rule named_form named_goes) (ends_goes (on expr_on) extension_form extension_ends))
 
 -- some declaration on a line of its own
@@ -621,5 +621,5 @@ decls_rows = record {
 }
 
 -- a list of tokens is one list of declarations
-pub decls_one : One decls_form
+pub decls_one : IsUnambiguous decls_form
 decls_one = rows_one decls_rows

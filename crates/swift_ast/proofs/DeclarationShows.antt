@@ -69,13 +69,13 @@ access_tokens (access.Fileprivate t) = refl
 access_tokens (access.Internal t) = refl
 access_tokens (access.Public t) = refl
 
-access_goes_on : (x : Access) → access_form.goes_on x ≡ nothing
-access_goes_on (access.Private t) = refl
-access_goes_on (access.Fileprivate t) = refl
-access_goes_on (access.Internal t) = refl
-access_goes_on (access.Public t) = refl
+access_continues : (x : Access) → access_form.continues x ≡ nothing
+access_continues (access.Private t) = refl
+access_continues (access.Fileprivate t) = refl
+access_continues (access.Internal t) = refl
+access_continues (access.Public t) = refl
 
-access_right : (x : Access) → access_form.is_right x ≡ on (is (access_sort x)) (access_out x)
+access_right : (x : Access) → access_form.is_well_formed x ≡ on (is (access_sort x)) (access_out x)
 access_right (access.Private t) = refl
 access_right (access.Fileprivate t) = refl
 access_right (access.Internal t) = refl
@@ -108,7 +108,7 @@ access_kept T.Public first t m = refl
 access_kept _ first t m = absurd (false≢true m)
 
 pub access_shows : Shows access_form (token (on is_access)) access_out access_made
-access_shows = sorts_show is_access access_form access_out access_sort access_at (record { tokens = access_tokens; goes_on = access_goes_on; right = access_right; inside = access_inside; there = access_there; back = access_back; kept = access_kept })
+access_shows = sorts_show is_access access_form access_out access_sort access_at (record { tokens = access_tokens; continues = access_continues; right = access_right; inside = access_inside; there = access_there; back = access_back; kept = access_kept })
 
 abbrev pub global_out : Global → BindingParts
 global_out x = (x.specifier, (x.name, (x.annotation, (x.assign, x.value))))
@@ -131,12 +131,12 @@ abbrev pub name_typed_form : Form Leaf (Leaf × TypedParts)
 name_typed_form = both (word T.Identifier) typed_form
 
 abbrev pub tail_right : Leaf → (Leaf × TypedParts) ⊎ TypedParts → Bool
-tail_right t (inl p) = name_typed_form.is_right p
-tail_right t (inr p) = on (is T.Identifier) t && typed_form.is_right p
+tail_right t (inl p) = name_typed_form.is_well_formed p
+tail_right t (inr p) = on (is T.Identifier) t && typed_form.is_well_formed p
 
 -- behind `_` a name has to stand
 abbrev pub tail_form : Leaf → Form Leaf ((Leaf × TypedParts) ⊎ TypedParts)
-tail_form t = record { tokens = either_tokens name_typed_form typed_form; is_right = tail_right t; goes_on = either_on name_typed_form typed_form }
+tail_form t = record { tokens = either_tokens name_typed_form typed_form; is_well_formed = tail_right t; continues = either_on name_typed_form typed_form }
 
 abbrev pub ParamParts : Type 0
 ParamParts = Leaf × ((Leaf × TypedParts) ⊎ TypedParts)
@@ -165,17 +165,17 @@ param_tokens : (label : Option Leaf) (name : Leaf) (typed : TypedParts) → para
 param_tokens None name typed = refl
 param_tokens (Some t) name typed = refl
 
-param_goes : (label : Option Leaf) (name : Leaf) (typed : TypedParts) → param_form.goes_on (param_of label name typed) ≡ param_words.goes_on (param_parts label name typed)
+param_goes : (label : Option Leaf) (name : Leaf) (typed : TypedParts) → param_form.continues (param_of label name typed) ≡ param_words.continues (param_parts label name typed)
 param_goes None name typed = refl
 param_goes (Some t) name typed = refl
 
-param_right : (label : Option Leaf) (name : Leaf) (typed : TypedParts) → param_form.is_right (param_of label name typed) ≡ true → param_words.is_right (param_parts label name typed) ≡ true
-param_right None name typed r = and_from (on is_label name) _ (within (is T.Identifier) is_label refl name ((and_parts (on (is T.Identifier) name) (typed_form.is_right typed) r).0)) r
+param_right : (label : Option Leaf) (name : Leaf) (typed : TypedParts) → param_form.is_well_formed (param_of label name typed) ≡ true → param_words.is_well_formed (param_parts label name typed) ≡ true
+param_right None name typed r = and_from (on is_label name) _ (within (is T.Identifier) is_label refl name ((and_parts (on (is T.Identifier) name) (typed_form.is_well_formed typed) r).0)) r
 param_right (Some t) name typed r = r
 
-param_made_right : (t : Leaf) (p : (Leaf × TypedParts) ⊎ TypedParts) → param_words.is_right (t, p) ≡ true → param_form.is_right (param_at t p) ≡ true
+param_made_right : (t : Leaf) (p : (Leaf × TypedParts) ⊎ TypedParts) → param_words.is_well_formed (t, p) ≡ true → param_form.is_well_formed (param_at t p) ≡ true
 param_made_right t (inl p) r = r
-param_made_right t (inr p) r = (and_parts (on is_label t) (on (is T.Identifier) t && typed_form.is_right p) r).1
+param_made_right t (inr p) r = (and_parts (on is_label t) (on (is T.Identifier) t && typed_form.is_well_formed p) r).1
 
 param_there : (t : Leaf) (p : (Leaf × TypedParts) ⊎ TypedParts) → param_out (param_at t p) ≡ (t, p)
 param_there t (inl p) = refl
@@ -188,7 +188,7 @@ param_back (Some t) name typed = refl
 pub param_shows : Shows param_form param_words param_out param_made
 param_shows = record {
   tokens = λ x. param_tokens x.label x.name (x.colon, x.type_name);
-  goes_on = λ x. param_goes x.label x.name (x.colon, x.type_name);
+  continues = λ x. param_goes x.label x.name (x.colon, x.type_name);
   right = λ x r. param_right x.label x.name (x.colon, x.type_name) r;
   made_right = λ p r. param_made_right p.0 p.1 r;
   there = λ p r. param_there p.0 p.1;

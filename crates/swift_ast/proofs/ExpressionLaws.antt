@@ -1,7 +1,7 @@
--- What the trees of expressions begin with and go on with, and that no two of them have the same tokens.
+-- What the trees of expressions begin with and continue with, and that no two of them have the same tokens.
 use Rattle.std.proofs.Common.{◌≡◌, ℕ, zero, suc, true, false, [], refl}
 use Rattle.grammar.specs.Forms.{token, both, perhaps}
-use Rattle.grammar.specs.Faults.{OneTo, One, Begun, Begins, ApartAll, GoesOnWith, Follows, IsBare, Bare}
+use Rattle.grammar.specs.Faults.{IsUnambiguousBelow, IsUnambiguous, StartsWithin, Begins, NeverContinuesWith, ContinuesWith, Follows, IsBare, Bare}
 use Rattle.grammar.proofs.Basics.{one_of_any, none_smaller, goes_apart, goes_more, weaker_begun, ends_goes, ends_apart, bare_begins}
 use Rattle.grammar.proofs.Sequences.{token_one, token_is_one, token_begun, both_one, both_begun, both_goes, after_token, headed_one, ended_follows, Joins}
 use Rattle.grammar.proofs.Rows.{trail_one, trail_begun_by, trail_goes, trail_bare, Trails, Chains, chain_one, chain_goes}
@@ -25,34 +25,34 @@ use Rattle.swift_ast.proofs.ExpressionShows.{arg_list_form, cmp_operator_shows, 
 
 -- ---- operators
 
-pub cmp_operator_begun : Begun (on is_cmp_operator) cmp_operator_form
+pub cmp_operator_begun : StartsWithin (on is_cmp_operator) cmp_operator_form
 cmp_operator_begun = shown_begun (on is_cmp_operator) cmp_operator_shows (token_begun (on is_cmp_operator))
 
-pub sum_operator_begun : Begun (on is_sum_operator) sum_operator_form
+pub sum_operator_begun : StartsWithin (on is_sum_operator) sum_operator_form
 sum_operator_begun = shown_begun (on is_sum_operator) sum_operator_shows (token_begun (on is_sum_operator))
 
-pub product_operator_begun : Begun (on is_product_operator) product_operator_form
+pub product_operator_begun : StartsWithin (on is_product_operator) product_operator_form
 product_operator_begun = shown_begun (on is_product_operator) product_operator_shows (token_begun (on is_product_operator))
 
-pub cmp_operator_ends : (x : CmpOperator) (t : Leaf) → cmp_operator_form.goes_on x t ≡ false
+pub cmp_operator_ends : (x : CmpOperator) (t : Leaf) → cmp_operator_form.continues x t ≡ false
 cmp_operator_ends = shown_ends cmp_operator_shows (λ x t. refl)
 
-pub sum_operator_ends : (x : SumOperator) (t : Leaf) → sum_operator_form.goes_on x t ≡ false
+pub sum_operator_ends : (x : SumOperator) (t : Leaf) → sum_operator_form.continues x t ≡ false
 sum_operator_ends = shown_ends sum_operator_shows (λ x t. refl)
 
-pub product_operator_ends : (x : ProductOperator) (t : Leaf) → product_operator_form.goes_on x t ≡ false
+pub product_operator_ends : (x : ProductOperator) (t : Leaf) → product_operator_form.continues x t ≡ false
 product_operator_ends = shown_ends product_operator_shows (λ x t. refl)
 
-pub cmp_operator_one : One cmp_operator_form
+pub cmp_operator_one : IsUnambiguous cmp_operator_form
 cmp_operator_one = shown_is_one cmp_operator_shows (token_is_one (on is_cmp_operator))
 
-pub sum_operator_one : One sum_operator_form
+pub sum_operator_one : IsUnambiguous sum_operator_form
 sum_operator_one = shown_is_one sum_operator_shows (token_is_one (on is_sum_operator))
 
-pub product_operator_one : One product_operator_form
+pub product_operator_one : IsUnambiguous product_operator_form
 product_operator_one = shown_is_one product_operator_shows (token_is_one (on is_product_operator))
 
--- ---- what each goes on with
+-- ---- what each continues with
 
 abbrev pub product_on : Test
 product_on = or is_product_operator begins_part
@@ -75,92 +75,92 @@ arg_on = or (is T.Colon) expr_on
 abbrev pub arg_list_on : Test
 arg_list_on = or (is T.Comma) arg_on
 
-pub atom_ends : (x : Atom) (t : Leaf) → atom_form.goes_on x t ≡ false
+pub atom_ends : (x : Atom) (t : Leaf) → atom_form.continues x t ≡ false
 atom_ends = shown_ends atom_shows (either_ends (token (on is_simple_atom)) (parentheses_rule expr_form) (λ x t. refl) (λ x t. refl))
 
-pub args_ends : (x : Args) (t : Leaf) → args_form.goes_on x t ≡ false
+pub args_ends : (x : Args) (t : Leaf) → args_form.continues x t ≡ false
 args_ends = shown_ends args_shows (λ x t. refl)
 
-pub part_ends : (x : PostfixPart) (t : Leaf) → part_form.goes_on x t ≡ false
+pub part_ends : (x : PostfixPart) (t : Leaf) → part_form.continues x t ≡ false
 part_ends = shown_ends part_shows (either_ends member_rule args_form (λ x t. refl) args_ends)
 
-pub postfix_goes : GoesOnWith (on begins_part) postfix_form
+pub postfix_goes : ContinuesWith (on begins_part) postfix_form
 postfix_goes = shown_goes (on begins_part) postfix_shows (trail_goes (on begins_part) (on begins_part) atom_form part_form (λ t m. m) (ends_goes (on begins_part) atom_form atom_ends) (ends_goes (on begins_part) part_form part_ends))
 
-pub prefix_goes : GoesOnWith (on begins_part) prefix_form
+pub prefix_goes : ContinuesWith (on begins_part) prefix_form
 prefix_goes = shown_goes (on begins_part) prefix_shows (both_goes (on begins_part) (perhaps (on is_prefix_operator) (token (on is_prefix_operator))) postfix_form postfix_goes)
 
-pub product_goes : GoesOnWith (on product_on) product_form
+pub product_goes : ContinuesWith (on product_on) product_form
 product_goes = shown_goes (on product_on) product_shows (chain_goes (on product_on) (on is_product_operator) product_operator_form prefix_form (within is_product_operator product_on refl) (goes_more (on begins_part) (on product_on) prefix_form prefix_goes (within begins_part product_on refl)))
 
-pub sum_goes : GoesOnWith (on sum_on) sum_form
+pub sum_goes : ContinuesWith (on sum_on) sum_form
 sum_goes = shown_goes (on sum_on) sum_shows (chain_goes (on sum_on) (on is_sum_operator) sum_operator_form product_form (within is_sum_operator sum_on refl) (goes_more (on product_on) (on sum_on) product_form product_goes (within product_on sum_on refl)))
 
-sum_goes_cmp : GoesOnWith (on cmp_on) sum_form
+sum_goes_cmp : ContinuesWith (on cmp_on) sum_form
 sum_goes_cmp = goes_more (on sum_on) (on cmp_on) sum_form sum_goes (within sum_on cmp_on refl)
 
-pub cmp_goes : GoesOnWith (on cmp_on) cmp_form
+pub cmp_goes : ContinuesWith (on cmp_on) cmp_form
 cmp_goes = shown_goes (on cmp_on) cmp_shows (once_goes (on cmp_on) (on is_cmp_operator) sum_form (both cmp_operator_form sum_form) (within is_cmp_operator cmp_on refl) sum_goes_cmp (both_goes (on cmp_on) cmp_operator_form sum_form sum_goes_cmp))
 
-pub and_goes : GoesOnWith (on and_on) and_form
+pub and_goes : ContinuesWith (on and_on) and_form
 and_goes = shown_goes (on and_on) and_shows (chain_goes (on and_on) (on (is T.And)) (word T.And) cmp_form (within (is T.And) and_on refl) (goes_more (on cmp_on) (on and_on) cmp_form cmp_goes (within cmp_on and_on refl)))
 
-pub expr_goes : GoesOnWith (on expr_on) expr_form
+pub expr_goes : ContinuesWith (on expr_on) expr_form
 expr_goes = shown_goes (on expr_on) expr_shows (chain_goes (on expr_on) (on (is T.Or)) (word T.Or) and_form (within (is T.Or) expr_on refl) (goes_more (on and_on) (on expr_on) and_form and_goes (within and_on expr_on refl)))
 
-pub arg_goes : GoesOnWith (on arg_on) arg_form
+pub arg_goes : ContinuesWith (on arg_on) arg_form
 arg_goes = shown_goes (on arg_on) arg_shows (labelled_goes (on arg_on) (on (is T.Identifier)) (on (is T.Colon)) expr_form (within (is T.Colon) arg_on refl) (goes_more (on expr_on) (on arg_on) expr_form expr_goes (within expr_on arg_on refl)))
 
-pub arg_list_goes : GoesOnWith (on arg_list_on) arg_list_form
+pub arg_list_goes : ContinuesWith (on arg_list_on) arg_list_form
 arg_list_goes = chain_goes (on arg_list_on) (on (is T.Comma)) (word T.Comma) arg_form (within (is T.Comma) arg_list_on refl) (goes_more (on arg_on) (on arg_list_on) arg_form arg_goes (within arg_on arg_list_on refl))
 
--- an expression does not go on with a token of a test that is apart
-pub expr_apart : (test : Test) → Rattle.grammar.specs.Tests.are_apart test expr_on terminals ≡ true → ApartAll (on test) expr_form
+-- an expression does not continue with a token of a test that is apart
+pub expr_apart : (test : Test) → Rattle.grammar.specs.Tests.are_apart test expr_on terminals ≡ true → NeverContinuesWith (on test) expr_form
 expr_apart test e = goes_apart (on test) (on expr_on) expr_form expr_goes (apart test expr_on e)
 
 -- ---- what each begins with
 
-parentheses_begun : Begun (on (is T.LeftParenthesis)) (parentheses_rule expr_form)
+parentheses_begun : StartsWithin (on (is T.LeftParenthesis)) (parentheses_rule expr_form)
 parentheses_begun = both_begun (on (is T.LeftParenthesis)) (word T.LeftParenthesis) (both expr_form (word T.RightParenthesis)) (token_begun (on (is T.LeftParenthesis)))
 
 pub atom_choices : Choices (on is_simple_atom) (on (is T.LeftParenthesis)) (token (on is_simple_atom)) (parentheses_rule expr_form)
 atom_choices = record { left = token_begun (on is_simple_atom); right = parentheses_begun; apart = apart is_simple_atom (is T.LeftParenthesis) refl }
 
-pub atom_begun : Begun (on begins_atom) atom_form
+pub atom_begun : StartsWithin (on begins_atom) atom_form
 atom_begun = shown_begun (on begins_atom) atom_shows (choice_begun atom_choices)
 
-pub args_begun : Begun (on opens_args) args_form
+pub args_begun : StartsWithin (on opens_args) args_form
 args_begun = shown_begun (on opens_args) args_shows (both_begun (on opens_args) (token (on opens_args)) (both (perhaps (on begins_expr) arg_list_form) (word T.RightParenthesis)) (token_begun (on opens_args)))
 
-member_begun : Begun (on (is T.Dot)) member_rule
+member_begun : StartsWithin (on (is T.Dot)) member_rule
 member_begun = both_begun (on (is T.Dot)) (word T.Dot) (word T.Identifier) (token_begun (on (is T.Dot)))
 
 pub part_choices : Choices (on (is T.Dot)) (on opens_args) member_rule args_form
 part_choices = record { left = member_begun; right = args_begun; apart = apart (is T.Dot) opens_args refl }
 
-pub part_begun : Begun (on begins_part) part_form
+pub part_begun : StartsWithin (on begins_part) part_form
 part_begun = shown_begun (on begins_part) part_shows (choice_begun part_choices)
 
-pub postfix_begun : Begun (on begins_atom) postfix_form
+pub postfix_begun : StartsWithin (on begins_atom) postfix_form
 postfix_begun = shown_begun (on begins_atom) postfix_shows (trail_begun_by (on begins_atom) (on begins_part) atom_form part_form atom_begun)
 
-pub prefix_begun : Begun (on begins_expr) prefix_form
+pub prefix_begun : StartsWithin (on begins_expr) prefix_form
 prefix_begun = shown_begun (on begins_expr) prefix_shows (weaker_begun (on (or is_prefix_operator begins_atom)) (on begins_expr) (prefix_rule postfix_form) (within (or is_prefix_operator begins_atom) begins_expr refl)
     (optional_begun (on is_prefix_operator) (on is_prefix_operator) (on begins_atom) (token (on is_prefix_operator)) postfix_form (token_begun (on is_prefix_operator)) postfix_begun))
 
-pub product_begun : Begun (on begins_expr) product_form
+pub product_begun : StartsWithin (on begins_expr) product_form
 product_begun = shown_begun (on begins_expr) product_shows (trail_begun_by (on begins_expr) (on is_product_operator) prefix_form (both product_operator_form prefix_form) prefix_begun)
 
-pub sum_begun : Begun (on begins_expr) sum_form
+pub sum_begun : StartsWithin (on begins_expr) sum_form
 sum_begun = shown_begun (on begins_expr) sum_shows (trail_begun_by (on begins_expr) (on is_sum_operator) product_form (both sum_operator_form product_form) product_begun)
 
-pub cmp_begun : Begun (on begins_expr) cmp_form
+pub cmp_begun : StartsWithin (on begins_expr) cmp_form
 cmp_begun = shown_begun (on begins_expr) cmp_shows (once_begun (on begins_expr) (on is_cmp_operator) sum_form (both cmp_operator_form sum_form) sum_begun)
 
-pub and_begun : Begun (on begins_expr) and_form
+pub and_begun : StartsWithin (on begins_expr) and_form
 and_begun = shown_begun (on begins_expr) and_shows (trail_begun_by (on begins_expr) (on (is T.And)) cmp_form (both (word T.And) cmp_form) cmp_begun)
 
-pub expr_begun : Begun (on begins_expr) expr_form
+pub expr_begun : StartsWithin (on begins_expr) expr_form
 expr_begun = shown_begun (on begins_expr) expr_shows (trail_begun_by (on begins_expr) (on (is T.Or)) and_form (both (word T.Or) and_form) and_begun)
 
 -- ---- trees of one token
@@ -225,10 +225,10 @@ arg_some = shown_begins arg_shows (labelled_some (on (is T.Identifier)) (on (is 
 
 -- ---- no two trees
 
-arg_begun : Begun (on begins_expr) arg_form
+arg_begun : StartsWithin (on begins_expr) arg_form
 arg_begun = shown_begun (on begins_expr) arg_shows (labelled_begun (on begins_expr) (on (is T.Identifier)) (on (is T.Colon)) expr_form expr_names expr_begun)
 
-pub arg_list_begun : Begun (on begins_expr) arg_list_form
+pub arg_list_begun : StartsWithin (on begins_expr) arg_list_form
 arg_list_begun = trail_begun_by (on begins_expr) (on (is T.Comma)) arg_form (both (word T.Comma) arg_form) arg_begun
 
 pub expr_closed : Follows expr_form (word T.RightParenthesis)
@@ -237,141 +237,141 @@ expr_closed x y w r s = expr_apart (is T.RightParenthesis) refl x y r
 pub arg_list_closed : Follows (perhaps (on begins_expr) arg_list_form) (word T.RightParenthesis)
 arg_list_closed = perhaps_follows (on begins_expr) arg_list_form (word T.RightParenthesis) (on (is T.RightParenthesis)) (token_begun (on (is T.RightParenthesis))) (apart (is T.RightParenthesis) begins_expr refl) (goes_apart (on (is T.RightParenthesis)) (on arg_list_on) arg_list_form arg_list_goes (apart (is T.RightParenthesis) arg_list_on refl))
 
-pub arg_list_apart : ApartAll (on (is T.RightParenthesis)) arg_list_form
+pub arg_list_apart : NeverContinuesWith (on (is T.RightParenthesis)) arg_list_form
 arg_list_apart = goes_apart (on (is T.RightParenthesis)) (on arg_list_on) arg_list_form arg_list_goes (apart (is T.RightParenthesis) arg_list_on refl)
 
 operator_follows : Follows (perhaps (on is_prefix_operator) (token (on is_prefix_operator))) postfix_form
 operator_follows = perhaps_follows (on is_prefix_operator) (token (on is_prefix_operator)) postfix_form (on begins_atom) postfix_begun (apart begins_atom is_prefix_operator refl) (λ x t m. refl)
 
-comma_apart : ApartAll (on (is T.Comma)) arg_form
+comma_apart : NeverContinuesWith (on (is T.Comma)) arg_form
 comma_apart = goes_apart (on (is T.Comma)) (on arg_on) arg_form arg_goes (apart (is T.Comma) arg_on refl)
 
-product_apart : ApartAll (on is_product_operator) prefix_form
+product_apart : NeverContinuesWith (on is_product_operator) prefix_form
 product_apart = goes_apart (on is_product_operator) (on begins_part) prefix_form prefix_goes (apart is_product_operator begins_part refl)
 
-sum_apart : ApartAll (on is_sum_operator) product_form
+sum_apart : NeverContinuesWith (on is_sum_operator) product_form
 sum_apart = goes_apart (on is_sum_operator) (on product_on) product_form product_goes (apart is_sum_operator product_on refl)
 
-cmp_apart : ApartAll (on is_cmp_operator) sum_form
+cmp_apart : NeverContinuesWith (on is_cmp_operator) sum_form
 cmp_apart = goes_apart (on is_cmp_operator) (on sum_on) sum_form sum_goes (apart is_cmp_operator sum_on refl)
 
-and_apart : ApartAll (on (is T.And)) cmp_form
+and_apart : NeverContinuesWith (on (is T.And)) cmp_form
 and_apart = goes_apart (on (is T.And)) (on cmp_on) cmp_form cmp_goes (apart (is T.And) cmp_on refl)
 
-or_apart : ApartAll (on (is T.Or)) and_form
+or_apart : NeverContinuesWith (on (is T.Or)) and_form
 or_apart = goes_apart (on (is T.Or)) (on and_on) and_form and_goes (apart (is T.Or) and_on refl)
 
-pair_begun : Begun (on is_cmp_operator) (both cmp_operator_form sum_form)
+pair_begun : StartsWithin (on is_cmp_operator) (both cmp_operator_form sum_form)
 pair_begun = both_begun (on is_cmp_operator) cmp_operator_form sum_form cmp_operator_begun
 
-atom_next : (n : ℕ) → OneTo n expr_form → OneTo (suc n) atom_form
+atom_next : (n : ℕ) → IsUnambiguousBelow n expr_form → IsUnambiguousBelow (suc n) atom_form
 atom_next n one = shown_one (suc n) atom_shows (choice_one (suc n) atom_choices (token_one (on is_simple_atom) (suc n))
     (headed_one (on (is T.LeftParenthesis)) (both expr_form (word T.RightParenthesis)) n (both_one expr_form (word T.RightParenthesis) n expr_closed one (token_one (on (is T.RightParenthesis)) n))))
 
-arg_next : (n : ℕ) → OneTo n expr_form → OneTo n arg_form
+arg_next : (n : ℕ) → IsUnambiguousBelow n expr_form → IsUnambiguousBelow n arg_form
 arg_next n one = shown_one n arg_shows (labelled_one (on (is T.Identifier)) (on (is T.Colon)) expr_form n expr_names (expr_apart (is T.Colon) refl) one)
 
-arg_list_next : (n : ℕ) → OneTo n arg_form → OneTo n arg_list_form
+arg_list_next : (n : ℕ) → IsUnambiguousBelow n arg_form → IsUnambiguousBelow n arg_list_form
 arg_list_next n one = chain_one (on (is T.Comma)) (word T.Comma) arg_form n (token_begun (on (is T.Comma))) (λ m t. refl) comma_apart (token_one (on (is T.Comma)) n) one
 
-args_next : (n : ℕ) → OneTo n arg_list_form → OneTo (suc n) args_form
+args_next : (n : ℕ) → IsUnambiguousBelow n arg_list_form → IsUnambiguousBelow (suc n) args_form
 args_next n one = shown_one (suc n) args_shows (headed_one (on opens_args) (both (perhaps (on begins_expr) arg_list_form) (word T.RightParenthesis)) n
     (both_one (perhaps (on begins_expr) arg_list_form) (word T.RightParenthesis) n arg_list_closed (perhaps_one (on begins_expr) arg_list_form n arg_list_begun one) (token_one (on (is T.RightParenthesis)) n)))
 
-part_next : (n : ℕ) → OneTo n args_form → OneTo n part_form
+part_next : (n : ℕ) → IsUnambiguousBelow n args_form → IsUnambiguousBelow n part_form
 part_next n one = shown_one n part_shows (choice_one n part_choices (both_one (word T.Dot) (word T.Identifier) n (after_token (on (is T.Dot)) (word T.Identifier)) (token_one (on (is T.Dot)) n) (token_one (on (is T.Identifier)) n)) one)
 
-postfix_next : (n : ℕ) → OneTo n atom_form → OneTo n part_form → OneTo n postfix_form
+postfix_next : (n : ℕ) → IsUnambiguousBelow n atom_form → IsUnambiguousBelow n part_form → IsUnambiguousBelow n postfix_form
 postfix_next n one two = shown_one n postfix_shows (trail_one (on begins_part) atom_form part_form n part_begun (ends_apart (on begins_part) atom_form atom_ends) (ends_apart (on begins_part) part_form part_ends) one two)
 
-prefix_next : (n : ℕ) → OneTo n postfix_form → OneTo n prefix_form
+prefix_next : (n : ℕ) → IsUnambiguousBelow n postfix_form → IsUnambiguousBelow n prefix_form
 prefix_next n one = shown_one n prefix_shows (both_one (perhaps (on is_prefix_operator) (token (on is_prefix_operator))) postfix_form n operator_follows (perhaps_one (on is_prefix_operator) (token (on is_prefix_operator)) n (token_begun (on is_prefix_operator)) (token_one (on is_prefix_operator) n)) one)
 
-product_next : (n : ℕ) → OneTo n prefix_form → OneTo n product_form
+product_next : (n : ℕ) → IsUnambiguousBelow n prefix_form → IsUnambiguousBelow n product_form
 product_next n one = shown_one n product_shows (chain_one (on is_product_operator) product_operator_form prefix_form n product_operator_begun product_operator_ends product_apart (shown_one n product_operator_shows (token_one (on is_product_operator) n)) one)
 
-sum_next : (n : ℕ) → OneTo n product_form → OneTo n sum_form
+sum_next : (n : ℕ) → IsUnambiguousBelow n product_form → IsUnambiguousBelow n sum_form
 sum_next n one = shown_one n sum_shows (chain_one (on is_sum_operator) sum_operator_form product_form n sum_operator_begun sum_operator_ends sum_apart (shown_one n sum_operator_shows (token_one (on is_sum_operator) n)) one)
 
-cmp_next : (n : ℕ) → OneTo n sum_form → OneTo n cmp_form
+cmp_next : (n : ℕ) → IsUnambiguousBelow n sum_form → IsUnambiguousBelow n cmp_form
 cmp_next n one = shown_one n cmp_shows (once_one (on is_cmp_operator) sum_form (both cmp_operator_form sum_form) n pair_begun cmp_apart one
     (both_one cmp_operator_form sum_form n (ended_follows cmp_operator_form sum_form cmp_operator_ends) (shown_one n cmp_operator_shows (token_one (on is_cmp_operator) n)) one))
 
-and_next : (n : ℕ) → OneTo n cmp_form → OneTo n and_form
+and_next : (n : ℕ) → IsUnambiguousBelow n cmp_form → IsUnambiguousBelow n and_form
 and_next n one = shown_one n and_shows (chain_one (on (is T.And)) (word T.And) cmp_form n (token_begun (on (is T.And))) (λ m t. refl) and_apart (token_one (on (is T.And)) n) one)
 
-expr_next : (n : ℕ) → OneTo n and_form → OneTo n expr_form
+expr_next : (n : ℕ) → IsUnambiguousBelow n and_form → IsUnambiguousBelow n expr_form
 expr_next n one = shown_one n expr_shows (chain_one (on (is T.Or)) (word T.Or) and_form n (token_begun (on (is T.Or))) (λ m t. refl) or_apart (token_one (on (is T.Or)) n) one)
 
-pub expr_one_to : (n : ℕ) → OneTo n expr_form
+pub expr_one_to : (n : ℕ) → IsUnambiguousBelow n expr_form
 expr_one_to zero = none_smaller expr_form
 expr_one_to (suc n) =
-    let below : OneTo n expr_form = expr_one_to n in
+    let below : IsUnambiguousBelow n expr_form = expr_one_to n in
     expr_next (suc n) (and_next (suc n) (cmp_next (suc n) (sum_next (suc n) (product_next (suc n) (prefix_next (suc n) (postfix_next (suc n) (atom_next n below) (part_next (suc n) (args_next n (arg_list_next n (arg_next n below))))))))))
 
-args_to : (n : ℕ) → OneTo n args_form
+args_to : (n : ℕ) → IsUnambiguousBelow n args_form
 args_to zero = none_smaller args_form
 args_to (suc n) = args_next n (arg_list_next n (arg_next n (expr_one_to n)))
 
-atom_to : (n : ℕ) → OneTo n atom_form
+atom_to : (n : ℕ) → IsUnambiguousBelow n atom_form
 atom_to zero = none_smaller atom_form
 atom_to (suc n) = atom_next n (expr_one_to n)
 
-part_to : (n : ℕ) → OneTo n part_form
+part_to : (n : ℕ) → IsUnambiguousBelow n part_form
 part_to n = part_next n (args_to n)
 
-pub postfix_one_to : (n : ℕ) → OneTo n postfix_form
+pub postfix_one_to : (n : ℕ) → IsUnambiguousBelow n postfix_form
 postfix_one_to n = postfix_next n (atom_to n) (part_to n)
 
-prefix_to : (n : ℕ) → OneTo n prefix_form
+prefix_to : (n : ℕ) → IsUnambiguousBelow n prefix_form
 prefix_to n = prefix_next n (postfix_one_to n)
 
-product_to : (n : ℕ) → OneTo n product_form
+product_to : (n : ℕ) → IsUnambiguousBelow n product_form
 product_to n = product_next n (prefix_to n)
 
-sum_to : (n : ℕ) → OneTo n sum_form
+sum_to : (n : ℕ) → IsUnambiguousBelow n sum_form
 sum_to n = sum_next n (product_to n)
 
-cmp_to : (n : ℕ) → OneTo n cmp_form
+cmp_to : (n : ℕ) → IsUnambiguousBelow n cmp_form
 cmp_to n = cmp_next n (sum_to n)
 
-and_to : (n : ℕ) → OneTo n and_form
+and_to : (n : ℕ) → IsUnambiguousBelow n and_form
 and_to n = and_next n (cmp_to n)
 
-pub expr_one : One expr_form
+pub expr_one : IsUnambiguous expr_form
 expr_one = one_of_any expr_form expr_one_to
 
-pub and_one : One and_form
+pub and_one : IsUnambiguous and_form
 and_one = one_of_any and_form and_to
 
-pub cmp_one : One cmp_form
+pub cmp_one : IsUnambiguous cmp_form
 cmp_one = one_of_any cmp_form cmp_to
 
-pub sum_one : One sum_form
+pub sum_one : IsUnambiguous sum_form
 sum_one = one_of_any sum_form sum_to
 
-pub product_one : One product_form
+pub product_one : IsUnambiguous product_form
 product_one = one_of_any product_form product_to
 
-pub prefix_one : One prefix_form
+pub prefix_one : IsUnambiguous prefix_form
 prefix_one = one_of_any prefix_form prefix_to
 
-pub postfix_one : One postfix_form
+pub postfix_one : IsUnambiguous postfix_form
 postfix_one = one_of_any postfix_form postfix_one_to
 
-pub part_one : One part_form
+pub part_one : IsUnambiguous part_form
 part_one = one_of_any part_form part_to
 
-pub args_one : One args_form
+pub args_one : IsUnambiguous args_form
 args_one = one_of_any args_form args_to
 
-pub arg_one : One arg_form
+pub arg_one : IsUnambiguous arg_form
 arg_one = one_of_any arg_form (λ n. arg_next n (expr_one_to n))
 
-pub arg_list_one : One arg_list_form
+pub arg_list_one : IsUnambiguous arg_list_form
 arg_list_one = one_of_any arg_list_form (λ n. arg_list_next n (arg_next n (expr_one_to n)))
 
-pub atom_one : One atom_form
+pub atom_one : IsUnambiguous atom_form
 atom_one = one_of_any atom_form atom_to
 
 -- ---- what the rules owe for their laws

@@ -83,8 +83,8 @@ number_same T.Unused = refl
 -- A token of a test, told apart by its terminal.
 pub record Sorts {X : Type 0} (test : Test) (F : Form Leaf X) (out : X → Leaf) (sort : X → Terminal) (made : Terminal → Leaf → X) : Type 0 where
   pub tokens : (x : X) → F.tokens x ≡ out x ∷ []
-  pub goes_on : (x : X) → F.goes_on x ≡ nothing
-  pub right : (x : X) → F.is_right x ≡ on (is (sort x)) (out x)
+  pub continues : (x : X) → F.continues x ≡ nothing
+  pub right : (x : X) → F.is_well_formed x ≡ on (is (sort x)) (out x)
   pub inside : (x : X) (first : Bool) → test (sort x) first ≡ true
   pub there : (k : Terminal) (t : Leaf) → out (made k t) ≡ t
   pub back : (x : X) → made (sort x) (out x) ≡ x
@@ -96,7 +96,7 @@ same_number a b e = subst (λ z. (number a == number z) ≡ true) e (number_same
 pub sorts_show : {X : Type 0} (test : Test) (F : Form Leaf X) (out : X → Leaf) (sort : X → Terminal) (made : Terminal → Leaf → X) → Sorts test F out sort made → Shows F (token (on test)) out (λ t. made (terminal t) t)
 sorts_show test F out sort made s = record {
   tokens = λ x. s.tokens x;
-  goes_on = λ x. s.goes_on x;
+  continues = λ x. s.continues x;
   right = λ x r. subst (λ k. test k (out x).first_on_line ≡ true) (sym (is_terminal (sort x) (out x) (sym (s.right x) ∙ r))) (s.inside x (out x).first_on_line);
   made_right = λ t r. s.right (made (terminal t) t) ∙ subst (λ z. on (is (sort (made (terminal t) t))) z ≡ true) (sym (s.there (terminal t) t)) (same_number (terminal t) (sort (made (terminal t) t)) (sym (s.kept (terminal t) t.first_on_line t r)));
   there = λ t r. s.there (terminal t) t;
@@ -139,15 +139,15 @@ cmp_operator_tokens (cmp_operator.LessOrEqual t) = refl
 cmp_operator_tokens (cmp_operator.Greater t) = refl
 cmp_operator_tokens (cmp_operator.GreaterOrEqual t) = refl
 
-cmp_operator_goes_on : (x : CmpOperator) → cmp_operator_form.goes_on x ≡ nothing
-cmp_operator_goes_on (cmp_operator.Equal t) = refl
-cmp_operator_goes_on (cmp_operator.NotEqual t) = refl
-cmp_operator_goes_on (cmp_operator.Less t) = refl
-cmp_operator_goes_on (cmp_operator.LessOrEqual t) = refl
-cmp_operator_goes_on (cmp_operator.Greater t) = refl
-cmp_operator_goes_on (cmp_operator.GreaterOrEqual t) = refl
+cmp_operator_continues : (x : CmpOperator) → cmp_operator_form.continues x ≡ nothing
+cmp_operator_continues (cmp_operator.Equal t) = refl
+cmp_operator_continues (cmp_operator.NotEqual t) = refl
+cmp_operator_continues (cmp_operator.Less t) = refl
+cmp_operator_continues (cmp_operator.LessOrEqual t) = refl
+cmp_operator_continues (cmp_operator.Greater t) = refl
+cmp_operator_continues (cmp_operator.GreaterOrEqual t) = refl
 
-cmp_operator_right : (x : CmpOperator) → cmp_operator_form.is_right x ≡ on (is (cmp_operator_sort x)) (cmp_operator_out x)
+cmp_operator_right : (x : CmpOperator) → cmp_operator_form.is_well_formed x ≡ on (is (cmp_operator_sort x)) (cmp_operator_out x)
 cmp_operator_right (cmp_operator.Equal t) = refl
 cmp_operator_right (cmp_operator.NotEqual t) = refl
 cmp_operator_right (cmp_operator.Less t) = refl
@@ -190,7 +190,7 @@ cmp_operator_kept T.GreaterOrEqual first t m = refl
 cmp_operator_kept _ first t m = absurd (false≢true m)
 
 pub cmp_operator_shows : Shows cmp_operator_form (token (on is_cmp_operator)) cmp_operator_out cmp_operator_made
-cmp_operator_shows = sorts_show is_cmp_operator cmp_operator_form cmp_operator_out cmp_operator_sort cmp_operator_at (record { tokens = cmp_operator_tokens; goes_on = cmp_operator_goes_on; right = cmp_operator_right; inside = cmp_operator_inside; there = cmp_operator_there; back = cmp_operator_back; kept = cmp_operator_kept })
+cmp_operator_shows = sorts_show is_cmp_operator cmp_operator_form cmp_operator_out cmp_operator_sort cmp_operator_at (record { tokens = cmp_operator_tokens; continues = cmp_operator_continues; right = cmp_operator_right; inside = cmp_operator_inside; there = cmp_operator_there; back = cmp_operator_back; kept = cmp_operator_kept })
 
 abbrev pub sum_operator_out : SumOperator → Leaf
 sum_operator_out (sum_operator.Plus t) = t
@@ -212,11 +212,11 @@ sum_operator_tokens : (x : SumOperator) → sum_operator_form.tokens x ≡ sum_o
 sum_operator_tokens (sum_operator.Plus t) = refl
 sum_operator_tokens (sum_operator.Minus t) = refl
 
-sum_operator_goes_on : (x : SumOperator) → sum_operator_form.goes_on x ≡ nothing
-sum_operator_goes_on (sum_operator.Plus t) = refl
-sum_operator_goes_on (sum_operator.Minus t) = refl
+sum_operator_continues : (x : SumOperator) → sum_operator_form.continues x ≡ nothing
+sum_operator_continues (sum_operator.Plus t) = refl
+sum_operator_continues (sum_operator.Minus t) = refl
 
-sum_operator_right : (x : SumOperator) → sum_operator_form.is_right x ≡ on (is (sum_operator_sort x)) (sum_operator_out x)
+sum_operator_right : (x : SumOperator) → sum_operator_form.is_well_formed x ≡ on (is (sum_operator_sort x)) (sum_operator_out x)
 sum_operator_right (sum_operator.Plus t) = refl
 sum_operator_right (sum_operator.Minus t) = refl
 
@@ -239,7 +239,7 @@ sum_operator_kept T.Minus first t m = refl
 sum_operator_kept _ first t m = absurd (false≢true m)
 
 pub sum_operator_shows : Shows sum_operator_form (token (on is_sum_operator)) sum_operator_out sum_operator_made
-sum_operator_shows = sorts_show is_sum_operator sum_operator_form sum_operator_out sum_operator_sort sum_operator_at (record { tokens = sum_operator_tokens; goes_on = sum_operator_goes_on; right = sum_operator_right; inside = sum_operator_inside; there = sum_operator_there; back = sum_operator_back; kept = sum_operator_kept })
+sum_operator_shows = sorts_show is_sum_operator sum_operator_form sum_operator_out sum_operator_sort sum_operator_at (record { tokens = sum_operator_tokens; continues = sum_operator_continues; right = sum_operator_right; inside = sum_operator_inside; there = sum_operator_there; back = sum_operator_back; kept = sum_operator_kept })
 
 abbrev pub product_operator_out : ProductOperator → Leaf
 product_operator_out (product_operator.Times t) = t
@@ -265,12 +265,12 @@ product_operator_tokens (product_operator.Times t) = refl
 product_operator_tokens (product_operator.Divide t) = refl
 product_operator_tokens (product_operator.Remainder t) = refl
 
-product_operator_goes_on : (x : ProductOperator) → product_operator_form.goes_on x ≡ nothing
-product_operator_goes_on (product_operator.Times t) = refl
-product_operator_goes_on (product_operator.Divide t) = refl
-product_operator_goes_on (product_operator.Remainder t) = refl
+product_operator_continues : (x : ProductOperator) → product_operator_form.continues x ≡ nothing
+product_operator_continues (product_operator.Times t) = refl
+product_operator_continues (product_operator.Divide t) = refl
+product_operator_continues (product_operator.Remainder t) = refl
 
-product_operator_right : (x : ProductOperator) → product_operator_form.is_right x ≡ on (is (product_operator_sort x)) (product_operator_out x)
+product_operator_right : (x : ProductOperator) → product_operator_form.is_well_formed x ≡ on (is (product_operator_sort x)) (product_operator_out x)
 product_operator_right (product_operator.Times t) = refl
 product_operator_right (product_operator.Divide t) = refl
 product_operator_right (product_operator.Remainder t) = refl
@@ -298,7 +298,7 @@ product_operator_kept T.Remainder first t m = refl
 product_operator_kept _ first t m = absurd (false≢true m)
 
 pub product_operator_shows : Shows product_operator_form (token (on is_product_operator)) product_operator_out product_operator_made
-product_operator_shows = sorts_show is_product_operator product_operator_form product_operator_out product_operator_sort product_operator_at (record { tokens = product_operator_tokens; goes_on = product_operator_goes_on; right = product_operator_right; inside = product_operator_inside; there = product_operator_there; back = product_operator_back; kept = product_operator_kept })
+product_operator_shows = sorts_show is_product_operator product_operator_form product_operator_out product_operator_sort product_operator_at (record { tokens = product_operator_tokens; continues = product_operator_continues; right = product_operator_right; inside = product_operator_inside; there = product_operator_there; back = product_operator_back; kept = product_operator_kept })
 
 -- ---- trees with operators between
 
@@ -413,7 +413,7 @@ args_made p = roll-Args (record { opening = p.0; list = p.1.0; closing = p.1.1 }
 
 args_given : (a c : Leaf) (o : Option ArgList) → one_args (map-Args Atom PostfixPart And Arg Args Cmp Expr Postfix Prefix Product Sum R R R R R R R R R R R atom_reading part_reading and_reading arg_reading args_reading cmp_reading expr_reading postfix_reading prefix_reading product_reading sum_reading (record { opening = a; list = o; closing = c })) ≡ reading (args_rule arg_form) (a, (o, c))
 args_given a c None = refl
-args_given a c (Some p) = ap (λ r. made_reading (a ∷ (r.tokens ++ (c ∷ []))) (on opens_args a && (r.is_right && on (is T.RightParenthesis) c)) nothing) (chain_map (on (is T.Comma)) (word T.Comma) arg_reading p.0 p.1)
+args_given a c (Some p) = ap (λ r. made_reading (a ∷ (r.tokens ++ (c ∷ []))) (on opens_args a && (r.is_well_formed && on (is T.RightParenthesis) c)) nothing) (chain_map (on (is T.Comma)) (word T.Comma) arg_reading p.0 p.1)
 
 args_open : (x : Args) → args_reading x ≡ reading (args_rule arg_form) (args_out x)
 args_open x = fold_out-Args R R R R R R R R R R R one_atom one_part one_and one_arg one_args one_cmp one_expr one_postfix one_prefix one_product one_sum x ∙ args_given (out-Args x).opening (out-Args x).closing (out-Args x).list
@@ -526,7 +526,7 @@ atom_tokens (Atom-F.Name t) = refl
 atom_tokens (Atom-F.SelfValue t) = refl
 atom_tokens (Atom-F.Parentheses (opening, expr, closing)) = refl
 
-atom_goes : (y : Atom-F Atom PostfixPart And Arg Args Cmp Expr Postfix Prefix Product Sum) → (atom_given y).goes_on ≡ atom_rule.goes_on (atom_parts y)
+atom_goes : (y : Atom-F Atom PostfixPart And Arg Args Cmp Expr Postfix Prefix Product Sum) → (atom_given y).continues ≡ atom_rule.continues (atom_parts y)
 atom_goes (Atom-F.Integer t) = refl
 atom_goes (Atom-F.StringText t) = refl
 atom_goes (Atom-F.True t) = refl
@@ -535,7 +535,7 @@ atom_goes (Atom-F.Name t) = refl
 atom_goes (Atom-F.SelfValue t) = refl
 atom_goes (Atom-F.Parentheses (opening, expr, closing)) = refl
 
-atom_right : (y : Atom-F Atom PostfixPart And Arg Args Cmp Expr Postfix Prefix Product Sum) → (atom_given y).is_right ≡ true → atom_rule.is_right (atom_parts y) ≡ true
+atom_right : (y : Atom-F Atom PostfixPart And Arg Args Cmp Expr Postfix Prefix Product Sum) → (atom_given y).is_well_formed ≡ true → atom_rule.is_well_formed (atom_parts y) ≡ true
 atom_right (Atom-F.Integer t) r = within (is T.Integer) is_simple_atom refl t r
 atom_right (Atom-F.StringText t) r = within (is T.StringText) is_simple_atom refl t r
 atom_right (Atom-F.True t) r = within (is T.True) is_simple_atom refl t r
@@ -553,7 +553,7 @@ simple_there T.Identifier t = refl
 simple_there T.SelfValue t = refl
 simple_there _ t = refl
 
-simple_right : (k : Terminal) (first : Bool) (t : Leaf) → terminal t ≡ k → is_simple_atom k first ≡ true → (atom_given (atom_at k t)).is_right ≡ true
+simple_right : (k : Terminal) (first : Bool) (t : Leaf) → terminal t ≡ k → is_simple_atom k first ≡ true → (atom_given (atom_at k t)).is_well_formed ≡ true
 simple_right T.Integer first t e m = same_number (terminal t) T.Integer e
 simple_right T.StringText first t e m = same_number (terminal t) T.StringText e
 simple_right T.True first t e m = same_number (terminal t) T.True e
@@ -566,11 +566,11 @@ atom_there : (p : AtomParts) → atom_parts (atom_layer p) ≡ p
 atom_there (inl t) = simple_there (terminal t) t
 atom_there (inr p) = refl
 
-layer_right : (p : AtomParts) → atom_rule.is_right p ≡ true → (atom_given (atom_layer p)).is_right ≡ true
+layer_right : (p : AtomParts) → atom_rule.is_well_formed p ≡ true → (atom_given (atom_layer p)).is_well_formed ≡ true
 layer_right (inl t) r = simple_right (terminal t) t.first_on_line t refl r
 layer_right (inr p) r = r
 
-atom_back : (y : Atom-F Atom PostfixPart And Arg Args Cmp Expr Postfix Prefix Product Sum) → (atom_given y).is_right ≡ true → atom_layer (atom_parts y) ≡ y
+atom_back : (y : Atom-F Atom PostfixPart And Arg Args Cmp Expr Postfix Prefix Product Sum) → (atom_given y).is_well_formed ≡ true → atom_layer (atom_parts y) ≡ y
 atom_back (Atom-F.Integer t) r = ap (λ k. atom_at k t) (is_terminal T.Integer t r)
 atom_back (Atom-F.StringText t) r = ap (λ k. atom_at k t) (is_terminal T.StringText t r)
 atom_back (Atom-F.True t) r = ap (λ k. atom_at k t) (is_terminal T.True t r)
@@ -582,11 +582,11 @@ atom_back (Atom-F.Parentheses (opening, expr, closing)) r = refl
 pub atom_shows : Shows atom_form atom_rule atom_out atom_made
 atom_shows = record {
   tokens = λ x. ap (λ r. r.tokens) (atom_open x) ∙ atom_tokens (out-Atom x);
-  goes_on = λ x. ap (λ r. r.goes_on) (atom_open x) ∙ atom_goes (out-Atom x);
-  right = λ x r. atom_right (out-Atom x) (sym (ap (λ z. z.is_right) (atom_open x)) ∙ r);
-  made_right = λ p r. ap (λ z. z.is_right) (atom_open (atom_made p)) ∙ subst (λ y. (atom_given y).is_right ≡ true) (sym (out-roll-Atom (atom_layer p))) (layer_right p r);
+  continues = λ x. ap (λ r. r.continues) (atom_open x) ∙ atom_goes (out-Atom x);
+  right = λ x r. atom_right (out-Atom x) (sym (ap (λ z. z.is_well_formed) (atom_open x)) ∙ r);
+  made_right = λ p r. ap (λ z. z.is_well_formed) (atom_open (atom_made p)) ∙ subst (λ y. (atom_given y).is_well_formed ≡ true) (sym (out-roll-Atom (atom_layer p))) (layer_right p r);
   there = λ p r. ap atom_parts (out-roll-Atom (atom_layer p)) ∙ atom_there p;
-  back = λ x r. ap (λ y. roll-Atom y) (atom_back (out-Atom x) (sym (ap (λ z. z.is_right) (atom_open x)) ∙ r)) ∙ roll-out-Atom x;
+  back = λ x r. ap (λ y. roll-Atom y) (atom_back (out-Atom x) (sym (ap (λ z. z.is_well_formed) (atom_open x)) ∙ r)) ∙ roll-out-Atom x;
 }
 
 -- ---- the variants of the program

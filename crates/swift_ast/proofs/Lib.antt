@@ -15,3 +15,4 @@ pub mod AssignLemmas
 pub mod TokenExits
 pub mod FlatteningLemmas
 pub mod FlatteningSteps
+pub mod CrossingLemmas

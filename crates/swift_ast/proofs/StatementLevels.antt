@@ -42,7 +42,7 @@ return_level n = both_balanced O C (word T.Return) (perhaps (on begins_value) va
 
 rest_level : (p : Postfix) (n : ℕ) → BalancedBelow n (rest_form p)
 rest_level p n None held small r = refl
-rest_level p n (Some v) held small r = valued_level n v held small ((and_parts (is_target p) (valued_form.is_right v) r).1)
+rest_level p n (Some v) held small r = valued_level n v held small ((and_parts (is_target p) (valued_form.is_well_formed v) r).1)
 
 plain_level : (n : ℕ) → BalancedBelow n plain_form
 plain_level n = shown_balanced O C n plain_shows (both_on_balanced O C postfix_form rest_form n (postfix_balanced_to n) (λ p. rest_level p n))

@@ -2,7 +2,7 @@
 use Rattle.std.proofs.Common.{◌≡◌, Bool, true, false, ◌&&◌, ◌||◌, not, List, [], ◌∷◌, ◌++◌, map, Option, Some, None, refl, sym, ◌∙◌, ap, ◌⊎◌, inl, inr}
 use Rattle.std.proofs.lemmas.Bool.{and_parts, and_from, false≢true}
 use Rattle.std.proofs.lemmas.List.{append_assoc, append-nil}
-use Rattle.grammar.specs.Forms.{Form, token, both, both_on, perhaps_tokens, perhaps_right, trail, lines, either, until, until_right, still_going, in_row, all_right, nothing}
+use Rattle.grammar.specs.Forms.{Form, token, both, both_on, perhaps_tokens, perhaps_well_formed, trail, lines, either, until, until_well_formed, still_going, in_row, all_well_formed, nothing}
 use Rattle.grammar.specs.Shows.{Shows, reading, given}
 use Rattle.grammar.proofs.Rows.{last_same}
 use Rattle.grammar.proofs.Shown.{shows_read, shows_through, many_map, lines_map, trail_map, made_reading}
@@ -56,11 +56,11 @@ specifier_tokens : (x : BindingSpecifier) → specifier_form.tokens x ≡ specif
 specifier_tokens (specifier.Let t) = refl
 specifier_tokens (specifier.Var t) = refl
 
-specifier_goes_on : (x : BindingSpecifier) → specifier_form.goes_on x ≡ nothing
-specifier_goes_on (specifier.Let t) = refl
-specifier_goes_on (specifier.Var t) = refl
+specifier_continues : (x : BindingSpecifier) → specifier_form.continues x ≡ nothing
+specifier_continues (specifier.Let t) = refl
+specifier_continues (specifier.Var t) = refl
 
-specifier_right : (x : BindingSpecifier) → specifier_form.is_right x ≡ on (is (specifier_sort x)) (specifier_out x)
+specifier_right : (x : BindingSpecifier) → specifier_form.is_well_formed x ≡ on (is (specifier_sort x)) (specifier_out x)
 specifier_right (specifier.Let t) = refl
 specifier_right (specifier.Var t) = refl
 
@@ -83,7 +83,7 @@ specifier_kept T.Var first t m = refl
 specifier_kept _ first t m = absurd (false≢true m)
 
 pub specifier_shows : Shows specifier_form (token (on is_specifier)) specifier_out specifier_made
-specifier_shows = sorts_show is_specifier specifier_form specifier_out specifier_sort specifier_at (record { tokens = specifier_tokens; goes_on = specifier_goes_on; right = specifier_right; inside = specifier_inside; there = specifier_there; back = specifier_back; kept = specifier_kept })
+specifier_shows = sorts_show is_specifier specifier_form specifier_out specifier_sort specifier_at (record { tokens = specifier_tokens; continues = specifier_continues; right = specifier_right; inside = specifier_inside; there = specifier_there; back = specifier_back; kept = specifier_kept })
 
 abbrev pub type_out : TypeName → Leaf
 type_out t = t.name
@@ -116,7 +116,7 @@ block_made p = roll-Block (record { opening = p.0; stmts = p.1.0; closing = p.1.
 
 block_open : (x : Block) → block_reading x ≡ reading (block_rule stmt_form) (block_out x)
 block_open x = fold_out-Block R R R R one_stmt one_block one_else_if one_if x ∙
-    ap (λ r. made_reading ((out-Block x).opening ∷ (r.tokens ++ ((out-Block x).closing ∷ []))) (on (is T.LeftBrace) (out-Block x).opening && (r.is_right && on (is T.RightBrace) (out-Block x).closing)) nothing)
+    ap (λ r. made_reading ((out-Block x).opening ∷ (r.tokens ++ ((out-Block x).closing ∷ []))) (on (is T.LeftBrace) (out-Block x).opening && (r.is_well_formed && on (is T.RightBrace) (out-Block x).closing)) nothing)
     (lines_map (on begins_stmt) (on begins_next_stmt) stmt_form given stmt_reading (λ z. refl) (out-Block x).stmts)
 
 pub block_shows : Shows block_form (block_rule stmt_form) block_out block_made
@@ -158,9 +158,9 @@ abbrev pub if_made : IfParts → If
 if_made p = roll-If (record { keyword = p.0; condition = p.1.0; block = p.1.1.0; else_ifs = p.1.1.1.0; last = p.1.1.1.1 })
 
 if_given : (k : Leaf) (c : Expr) (b : Block) (es : List ElseIf) (o : Option (Leaf × Block)) → one_if (map-If Stmt Block ElseIf If R R R R stmt_reading block_reading else_if_reading if_reading (record { keyword = k; condition = c; block = b; else_ifs = es; last = o })) ≡ reading (if_rule block_form else_if_form) (k, (c, (b, (es, o))))
-if_given k c b es None = ap (λ r. made_reading (k ∷ (expr_form.tokens c ++ (block_form.tokens b ++ (r.tokens ++ [])))) (on (is T.If) k && (expr_form.is_right c && (block_form.is_right b && (r.is_right && true)))) (λ t. on (is T.Else) t))
+if_given k c b es None = ap (λ r. made_reading (k ∷ (expr_form.tokens c ++ (block_form.tokens b ++ (r.tokens ++ [])))) (on (is T.If) k && (expr_form.is_well_formed c && (block_form.is_well_formed b && (r.is_well_formed && true)))) (λ t. on (is T.Else) t))
     (many_map (on (is T.Else)) else_if_form given else_if_reading (λ z. refl) es)
-if_given k c b es (Some p) = ap (λ r. made_reading (k ∷ (expr_form.tokens c ++ (block_form.tokens b ++ (r.tokens ++ (p.0 ∷ block_form.tokens p.1))))) (on (is T.If) k && (expr_form.is_right c && (block_form.is_right b && (r.is_right && (on (is T.Else) p.0 && block_form.is_right p.1))))) (block_form.goes_on p.1))
+if_given k c b es (Some p) = ap (λ r. made_reading (k ∷ (expr_form.tokens c ++ (block_form.tokens b ++ (r.tokens ++ (p.0 ∷ block_form.tokens p.1))))) (on (is T.If) k && (expr_form.is_well_formed c && (block_form.is_well_formed b && (r.is_well_formed && (on (is T.Else) p.0 && block_form.is_well_formed p.1))))) (block_form.continues p.1))
     (many_map (on (is T.Else)) else_if_form given else_if_reading (λ z. refl) es)
 
 if_open : (x : If) → if_reading x ≡ reading (if_rule block_form else_if_form) (if_out x)
@@ -205,14 +205,14 @@ abbrev pub rows_made : List ElseRow → ElseParts
 rows_made [] = ([], None)
 rows_made (r ∷ rs) = row_added r.0 r.1 (rows_made rs)
 
-block_nothing : (b : Block) → block_form.goes_on b ≡ nothing
-block_nothing b = block_shows.goes_on b
+block_nothing : (b : Block) → block_form.continues b ≡ nothing
+block_nothing b = block_shows.continues b
 
-behind_nothing : (p : (Leaf × (Expr × Block)) ⊎ Block) → behind_else_form.goes_on p ≡ nothing
+behind_nothing : (p : (Leaf × (Expr × Block)) ⊎ Block) → behind_else_form.continues p ≡ nothing
 behind_nothing (inl q) = block_nothing q.1.1
 behind_nothing (inr b) = block_nothing b
 
-row_nothing : (r : ElseRow) → else_row_form.goes_on r ≡ nothing
+row_nothing : (r : ElseRow) → else_row_form.continues r ≡ nothing
 row_nothing r = behind_nothing r.1
 
 rows_tokens : (es : List ElseIf) (o : Option (Leaf × Block)) → else_parts_form.tokens (es, o) ≡ in_row else_row_form (rows_at es o)
@@ -228,44 +228,44 @@ gone_at : (es : List ElseIf) (p : Leaf × Block) → still_going is_last true (r
 gone_at [] p = refl
 gone_at (e ∷ es) p = gone_at es p
 
-rows_goes : (es : List ElseIf) (o : Option (Leaf × Block)) → else_parts_form.goes_on (es, o) ≡ else_rows_form.goes_on (rows_at es o)
+rows_goes : (es : List ElseIf) (o : Option (Leaf × Block)) → else_parts_form.continues (es, o) ≡ else_rows_form.continues (rows_at es o)
 rows_goes es None = sym (ap (λ on_ t. on_ t || (still_going is_last true (rows_at es None) && on (is T.Else) t)) (last_same else_row_form nothing (rows_at es None) row_nothing) ∙ ap (λ b t. b && on (is T.Else) t) (going_at es))
 rows_goes es (Some p) = block_nothing p.1 ∙ sym (ap (λ on_ t. on_ t || (still_going is_last true (rows_at es (Some p)) && on (is T.Else) t)) (last_same else_row_form nothing (rows_at es (Some p)) row_nothing) ∙ ap (λ b t. b && on (is T.Else) t) (gone_at es p))
 
-rows_right_none : (es : List ElseIf) → all_right else_if_form es ≡ true → until_right is_last else_row_form true (rows_at es None) ≡ true
+rows_right_none : (es : List ElseIf) → all_well_formed else_if_form es ≡ true → until_well_formed is_last else_row_form true (rows_at es None) ≡ true
 rows_right_none [] r = refl
-rows_right_none (e ∷ es) r = let r2 = and_parts (else_if_form.is_right e) (all_right else_if_form es) r in and_from (else_row_form.is_right ((else_if_out e).0, inl (else_if_out e).1)) _ (else_if_shows.right e r2.0) (rows_right_none es r2.1)
+rows_right_none (e ∷ es) r = let r2 = and_parts (else_if_form.is_well_formed e) (all_well_formed else_if_form es) r in and_from (else_row_form.is_well_formed ((else_if_out e).0, inl (else_if_out e).1)) _ (else_if_shows.right e r2.0) (rows_right_none es r2.1)
 
-rows_right_some : (es : List ElseIf) (p : Leaf × Block) → all_right else_if_form es ≡ true → (both (word T.Else) block_form).is_right p ≡ true → until_right is_last else_row_form true (rows_at es (Some p)) ≡ true
-rows_right_some [] p r h = and_from ((both (word T.Else) block_form).is_right p) true h refl
-rows_right_some (e ∷ es) p r h = let r2 = and_parts (else_if_form.is_right e) (all_right else_if_form es) r in and_from (else_row_form.is_right ((else_if_out e).0, inl (else_if_out e).1)) _ (else_if_shows.right e r2.0) (rows_right_some es p r2.1 h)
+rows_right_some : (es : List ElseIf) (p : Leaf × Block) → all_well_formed else_if_form es ≡ true → (both (word T.Else) block_form).is_well_formed p ≡ true → until_well_formed is_last else_row_form true (rows_at es (Some p)) ≡ true
+rows_right_some [] p r h = and_from ((both (word T.Else) block_form).is_well_formed p) true h refl
+rows_right_some (e ∷ es) p r h = let r2 = and_parts (else_if_form.is_well_formed e) (all_well_formed else_if_form es) r in and_from (else_row_form.is_well_formed ((else_if_out e).0, inl (else_if_out e).1)) _ (else_if_shows.right e r2.0) (rows_right_some es p r2.1 h)
 
-rows_right : (es : List ElseIf) (o : Option (Leaf × Block)) → else_parts_form.is_right (es, o) ≡ true → else_rows_form.is_right (rows_at es o) ≡ true
-rows_right es None r = rows_right_none es ((and_parts (all_right else_if_form es) true r).0)
-rows_right es (Some p) r = let r2 = and_parts (all_right else_if_form es) ((both (word T.Else) block_form).is_right p) r in rows_right_some es p r2.0 r2.1
+rows_right : (es : List ElseIf) (o : Option (Leaf × Block)) → else_parts_form.is_well_formed (es, o) ≡ true → else_rows_form.is_well_formed (rows_at es o) ≡ true
+rows_right es None r = rows_right_none es ((and_parts (all_well_formed else_if_form es) true r).0)
+rows_right es (Some p) r = let r2 = and_parts (all_well_formed else_if_form es) ((both (word T.Else) block_form).is_well_formed p) r in rows_right_some es p r2.0 r2.1
 
-added_right : (e : Leaf) (q : (Leaf × (Expr × Block)) ⊎ Block) (rest : ElseParts) → else_row_form.is_right (e, q) ≡ true → else_parts_form.is_right rest ≡ true → else_parts_form.is_right (row_added e q rest) ≡ true
+added_right : (e : Leaf) (q : (Leaf × (Expr × Block)) ⊎ Block) (rest : ElseParts) → else_row_form.is_well_formed (e, q) ≡ true → else_parts_form.is_well_formed rest ≡ true → else_parts_form.is_well_formed (row_added e q rest) ≡ true
 added_right e (inl q) rest r h =
-    let h2 = and_parts (all_right else_if_form rest.0) (perhaps_right (both (word T.Else) block_form) rest.1) h in
-    and_from (else_if_form.is_right (else_if_made (e, q)) && all_right else_if_form rest.0) _ (and_from (else_if_form.is_right (else_if_made (e, q))) _ (else_if_shows.made_right (e, q) r) h2.0) h2.1
+    let h2 = and_parts (all_well_formed else_if_form rest.0) (perhaps_well_formed (both (word T.Else) block_form) rest.1) h in
+    and_from (else_if_form.is_well_formed (else_if_made (e, q)) && all_well_formed else_if_form rest.0) _ (and_from (else_if_form.is_well_formed (else_if_made (e, q))) _ (else_if_shows.made_right (e, q) r) h2.0) h2.1
 added_right e (inr b) rest r h = r
 
 -- a row behind one that ended is empty
-ended_right : (rs : List ElseRow) → until_right is_last else_row_form false rs ≡ true → rs ≡ []
+ended_right : (rs : List ElseRow) → until_well_formed is_last else_row_form false rs ≡ true → rs ≡ []
 ended_right [] r = refl
 ended_right (x ∷ rs) r = absurd (false≢true r)
 
-made_rows_right : (rs : List ElseRow) → until_right is_last else_row_form true rs ≡ true → else_parts_form.is_right (rows_made rs) ≡ true
+made_rows_right : (rs : List ElseRow) → until_well_formed is_last else_row_form true rs ≡ true → else_parts_form.is_well_formed (rows_made rs) ≡ true
 made_rows_right [] r = refl
-made_rows_right ((e, inl q) ∷ rs) r = let r2 = and_parts (else_row_form.is_right (e, inl q)) (until_right is_last else_row_form true rs) r in added_right e (inl q) (rows_made rs) r2.0 (made_rows_right rs r2.1)
-made_rows_right ((e, inr b) ∷ rs) r = (and_parts (else_row_form.is_right (e, inr b)) (until_right is_last else_row_form false rs) r).0
+made_rows_right ((e, inl q) ∷ rs) r = let r2 = and_parts (else_row_form.is_well_formed (e, inl q)) (until_well_formed is_last else_row_form true rs) r in added_right e (inl q) (rows_made rs) r2.0 (made_rows_right rs r2.1)
+made_rows_right ((e, inr b) ∷ rs) r = (and_parts (else_row_form.is_well_formed (e, inr b)) (until_well_formed is_last else_row_form false rs) r).0
 
-rows_there : (rs : List ElseRow) → until_right is_last else_row_form true rs ≡ true → rows_out (rows_made rs) ≡ rs
+rows_there : (rs : List ElseRow) → until_well_formed is_last else_row_form true rs ≡ true → rows_out (rows_made rs) ≡ rs
 rows_there [] r = refl
 rows_there ((e, inl q) ∷ rs) r =
-    let r2 = and_parts (else_row_form.is_right (e, inl q)) (until_right is_last else_row_form true rs) r in
+    let r2 = and_parts (else_row_form.is_well_formed (e, inl q)) (until_well_formed is_last else_row_form true rs) r in
     ap (λ p. (p.0, inl p.1) ∷ rows_out (rows_made rs)) (else_if_there (e, q)) ∙ ap (λ z. (e, inl q) ∷ z) (rows_there rs r2.1)
-rows_there ((e, inr b) ∷ rs) r = ap (λ z. (e, inr b) ∷ z) (sym (ended_right rs ((and_parts (else_row_form.is_right (e, inr b)) (until_right is_last else_row_form false rs) r).1)))
+rows_there ((e, inr b) ∷ rs) r = ap (λ z. (e, inr b) ∷ z) (sym (ended_right rs ((and_parts (else_row_form.is_well_formed (e, inr b)) (until_well_formed is_last else_row_form false rs) r).1)))
 
 pub rows_back : (es : List ElseIf) (o : Option (Leaf × Block)) → rows_made (rows_at es o) ≡ (es, o)
 rows_back [] None = refl
@@ -275,7 +275,7 @@ rows_back (e ∷ es) o = ap (λ z. (else_if_made (else_if_out e) ∷ z.0, z.1)) 
 pub rows_show : Shows else_parts_form else_rows_form rows_out rows_made
 rows_show = record {
   tokens = λ p. rows_tokens p.0 p.1;
-  goes_on = λ p. rows_goes p.0 p.1;
+  continues = λ p. rows_goes p.0 p.1;
   right = λ p r. rows_right p.0 p.1 r;
   made_right = λ rs r. made_rows_right rs r;
   there = λ rs r. rows_there rs r;
@@ -480,15 +480,15 @@ valued_form = both (word T.Assign) expr_form
 
 abbrev pub rest_right : Postfix → Option (Leaf × Expr) → Bool
 rest_right p None = is_call p
-rest_right p (Some v) = is_target p && valued_form.is_right v
+rest_right p (Some v) = is_target p && valued_form.is_well_formed v
 
 abbrev pub rest_on : Postfix → Option (Leaf × Expr) → Leaf → Bool
-rest_on p None = postfix_form.goes_on p
-rest_on p (Some v) = valued_form.goes_on v
+rest_on p None = postfix_form.continues p
+rest_on p (Some v) = valued_form.continues v
 
 -- behind a target an assigned value, and behind a call nothing
 abbrev pub rest_form : Postfix → Form Leaf (Option (Leaf × Expr))
-rest_form p = record { tokens = perhaps_tokens valued_form; is_right = rest_right p; goes_on = rest_on p }
+rest_form p = record { tokens = perhaps_tokens valued_form; is_well_formed = rest_right p; continues = rest_on p }
 
 abbrev pub PlainParts : Type 0
 PlainParts = Postfix × Option (Leaf × Expr)
@@ -511,28 +511,28 @@ plain_tokens : (x : AssignParts ⊎ Call) → plain_form.tokens x ≡ plain_rule
 plain_tokens (inl p) = ap (λ r. r.tokens ++ valued_form.tokens p.1) (sym (target_reading p.0))
 plain_tokens (inr c) = sym (append-nil (postfix_form.tokens c.postfix))
 
-plain_goes : (x : AssignParts ⊎ Call) → plain_form.goes_on x ≡ plain_rule.goes_on (plain_out x)
+plain_goes : (x : AssignParts ⊎ Call) → plain_form.continues x ≡ plain_rule.continues (plain_out x)
 plain_goes (inl p) = refl
 plain_goes (inr c) = refl
 
-plain_right : (x : AssignParts ⊎ Call) → plain_form.is_right x ≡ true → plain_rule.is_right (plain_out x) ≡ true
+plain_right : (x : AssignParts ⊎ Call) → plain_form.is_well_formed x ≡ true → plain_rule.is_well_formed (plain_out x) ≡ true
 plain_right (inl p) r =
-    let r2 = and_parts (target_form.is_right p.0) (valued_form.is_right p.1) r in
-    and_from (postfix_form.is_right (postfix_of p.0)) _ (ap (λ z. z.is_right) (target_reading p.0) ∙ r2.0) (and_from (is_target (postfix_of p.0)) (valued_form.is_right p.1) (target_so p.0) r2.1)
+    let r2 = and_parts (target_form.is_well_formed p.0) (valued_form.is_well_formed p.1) r in
+    and_from (postfix_form.is_well_formed (postfix_of p.0)) _ (ap (λ z. z.is_well_formed) (target_reading p.0) ∙ r2.0) (and_from (is_target (postfix_of p.0)) (valued_form.is_well_formed p.1) (target_so p.0) r2.1)
 plain_right (inr c) r = r
 
-made_right_at : (p : Postfix) (o : Option (Leaf × Expr)) → plain_rule.is_right (p, o) ≡ true → plain_form.is_right (plain_at p o) ≡ true
+made_right_at : (p : Postfix) (o : Option (Leaf × Expr)) → plain_rule.is_well_formed (p, o) ≡ true → plain_form.is_well_formed (plain_at p o) ≡ true
 made_right_at p None r = r
 made_right_at p (Some v) r =
-    let r2 = and_parts (postfix_form.is_right p) (is_target p && valued_form.is_right v) r in
-    let r3 = and_parts (is_target p) (valued_form.is_right v) r2.1 in
-    and_from (target_form.is_right (target_of p)) (valued_form.is_right v) (sym (ap (λ z. z.is_right) (target_reading (target_of p))) ∙ ap (λ z. postfix_form.is_right z) (named_back p r3.0) ∙ r2.0) r3.1
+    let r2 = and_parts (postfix_form.is_well_formed p) (is_target p && valued_form.is_well_formed v) r in
+    let r3 = and_parts (is_target p) (valued_form.is_well_formed v) r2.1 in
+    and_from (target_form.is_well_formed (target_of p)) (valued_form.is_well_formed v) (sym (ap (λ z. z.is_well_formed) (target_reading (target_of p))) ∙ ap (λ z. postfix_form.is_well_formed z) (named_back p r3.0) ∙ r2.0) r3.1
 
-there_at : (p : Postfix) (o : Option (Leaf × Expr)) → plain_rule.is_right (p, o) ≡ true → plain_out (plain_at p o) ≡ (p, o)
+there_at : (p : Postfix) (o : Option (Leaf × Expr)) → plain_rule.is_well_formed (p, o) ≡ true → plain_out (plain_at p o) ≡ (p, o)
 there_at p None r = refl
 there_at p (Some v) r =
-    let r2 = and_parts (postfix_form.is_right p) (is_target p && valued_form.is_right v) r in
-    ap (λ z. (z, Some v)) (named_back p ((and_parts (is_target p) (valued_form.is_right v) r2.1).0))
+    let r2 = and_parts (postfix_form.is_well_formed p) (is_target p && valued_form.is_well_formed v) r in
+    ap (λ z. (z, Some v)) (named_back p ((and_parts (is_target p) (valued_form.is_well_formed v) r2.1).0))
 
 plain_back : (x : AssignParts ⊎ Call) → plain_made (plain_out x) ≡ x
 plain_back (inl p) = ap (λ t. inl (t, p.1)) (target_back p.0)
@@ -541,7 +541,7 @@ plain_back (inr c) = refl
 pub plain_shows : Shows plain_form plain_rule plain_out plain_made
 plain_shows = record {
   tokens = plain_tokens;
-  goes_on = plain_goes;
+  continues = plain_goes;
   right = plain_right;
   made_right = λ p r. made_right_at p.0 p.1 r;
   there = λ p r. there_at p.0 p.1 r;
@@ -552,11 +552,11 @@ plain_shows = record {
 pub target_tokens : (t : Target) → postfix_form.tokens (postfix_of t) ≡ target_form.tokens t
 target_tokens t = ap (λ r. r.tokens) (target_reading t)
 
-pub target_right : (t : Target) → target_form.is_right t ≡ true → postfix_form.is_right (postfix_of t) ≡ true
-target_right t r = ap (λ z. z.is_right) (target_reading t) ∙ r
+pub target_right : (t : Target) → target_form.is_well_formed t ≡ true → postfix_form.is_well_formed (postfix_of t) ≡ true
+target_right t r = ap (λ z. z.is_well_formed) (target_reading t) ∙ r
 
 pub target_is : (t : Target) → is_target (postfix_of t) ≡ true
 target_is t = target_so t
 
-pub target_right_back : (t : Target) → postfix_form.is_right (postfix_of t) ≡ true → target_form.is_right t ≡ true
-target_right_back t r = sym (ap (λ z. z.is_right) (target_reading t)) ∙ r
+pub target_right_back : (t : Target) → postfix_form.is_well_formed (postfix_of t) ≡ true → target_form.is_well_formed t ≡ true
+target_right_back t r = sym (ap (λ z. z.is_well_formed) (target_reading t)) ∙ r

@@ -2,7 +2,7 @@
 use Rattle.std.proofs.Common.{◌≡◌, ℕ, ◌==◌, Bool, true, List, [], ◌∷◌, Some, codes, refl, sym, ◌∙◌, ap, subst}
 use Rattle.std.proofs.lemmas.Bool.{eqb-true}
 use Rattle.grammar.specs.Forms.{token, begins_by}
-use Rattle.grammar.specs.Faults.{Apart, Within, Begins, Stops}
+use Rattle.grammar.specs.Faults.{AreDisjoint, IsSubset, Begins, Stops}
 use Rattle.grammar.specs.Levels.{Plain}
 use Rattle.grammar.specs.Tests.{at_place, HasEach, are_apart, is_within}
 use Rattle.grammar.proofs.TestLemmas.{tests_apart, tests_within}
@@ -73,10 +73,10 @@ terminal_is a b e = some_is a b (sym (all_terminals a) ∙ ap (λ n. at_place te
 pub is_terminal : (k : Terminal) (t : Leaf) → on (is k) t ≡ true → terminal t ≡ k
 is_terminal k t e = terminal_is (terminal t) k e
 
-pub apart : (one two : Test) → are_apart one two terminals ≡ true → Apart (on one) (on two)
+pub apart : (one two : Test) → are_apart one two terminals ≡ true → AreDisjoint (on one) (on two)
 apart one two e t m = tests_apart terminals number all_terminals one two e (terminal t) t.first_on_line m
 
-pub within : (one two : Test) → is_within one two terminals ≡ true → Within (on one) (on two)
+pub within : (one two : Test) → is_within one two terminals ≡ true → IsSubset (on one) (on two)
 within one two e t m = tests_within terminals number all_terminals one two e (terminal t) t.first_on_line m
 
 pub plain : (test : Test) → are_apart test opens_level terminals ≡ true → are_apart test closes_level terminals ≡ true → Plain (on opens_level) (on closes_level) (on test)

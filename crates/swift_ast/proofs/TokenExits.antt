@@ -1,7 +1,7 @@
 -- What the functions owe that take one token of several terminals.
 use Rattle.std.proofs.Common.{◌≡◌, true, List, [], ◌∷◌, refl, sym, subst}
 use Rattle.grammar.specs.Forms.{nothing}
-use Rattle.grammar.specs.Faults.{Stops, Taken}
+use Rattle.grammar.specs.Faults.{Stops, Parsed}
 use Rattle.grammar.proofs.Basics.{single_taken}
 use Rattle.swift_ast.specs.declared.terminals.Terminal.TheVariants as T
 use Rattle.swift_ast.specs.declared.expressions.Atom.TheVariants as atom
@@ -20,22 +20,22 @@ use Rattle.swift_ast.specs.declared.declarations.Access.TheVariants as access
 
 -- ---- cmp_operator
 
-pub cmp_operator_equal : (t : Leaf) (old new : List Leaf) → old ≡ t ∷ new → on (is T.Equal) t ≡ true → Taken cmp_operator_form (cmp_operator.Equal t) nothing old new
+pub cmp_operator_equal : (t : Leaf) (old new : List Leaf) → old ≡ t ∷ new → on (is T.Equal) t ≡ true → Parsed cmp_operator_form (cmp_operator.Equal t) nothing old new
 cmp_operator_equal t old new e m = single_taken cmp_operator_form (cmp_operator.Equal t) t old new refl m e
 
-pub cmp_operator_not_equal : (t : Leaf) (old new : List Leaf) → old ≡ t ∷ new → on (is T.NotEqual) t ≡ true → Taken cmp_operator_form (cmp_operator.NotEqual t) nothing old new
+pub cmp_operator_not_equal : (t : Leaf) (old new : List Leaf) → old ≡ t ∷ new → on (is T.NotEqual) t ≡ true → Parsed cmp_operator_form (cmp_operator.NotEqual t) nothing old new
 cmp_operator_not_equal t old new e m = single_taken cmp_operator_form (cmp_operator.NotEqual t) t old new refl m e
 
-pub cmp_operator_less : (t : Leaf) (old new : List Leaf) → old ≡ t ∷ new → on (is T.Less) t ≡ true → Taken cmp_operator_form (cmp_operator.Less t) nothing old new
+pub cmp_operator_less : (t : Leaf) (old new : List Leaf) → old ≡ t ∷ new → on (is T.Less) t ≡ true → Parsed cmp_operator_form (cmp_operator.Less t) nothing old new
 cmp_operator_less t old new e m = single_taken cmp_operator_form (cmp_operator.Less t) t old new refl m e
 
-pub cmp_operator_less_or_equal : (t : Leaf) (old new : List Leaf) → old ≡ t ∷ new → on (is T.LessOrEqual) t ≡ true → Taken cmp_operator_form (cmp_operator.LessOrEqual t) nothing old new
+pub cmp_operator_less_or_equal : (t : Leaf) (old new : List Leaf) → old ≡ t ∷ new → on (is T.LessOrEqual) t ≡ true → Parsed cmp_operator_form (cmp_operator.LessOrEqual t) nothing old new
 cmp_operator_less_or_equal t old new e m = single_taken cmp_operator_form (cmp_operator.LessOrEqual t) t old new refl m e
 
-pub cmp_operator_greater : (t : Leaf) (old new : List Leaf) → old ≡ t ∷ new → on (is T.Greater) t ≡ true → Taken cmp_operator_form (cmp_operator.Greater t) nothing old new
+pub cmp_operator_greater : (t : Leaf) (old new : List Leaf) → old ≡ t ∷ new → on (is T.Greater) t ≡ true → Parsed cmp_operator_form (cmp_operator.Greater t) nothing old new
 cmp_operator_greater t old new e m = single_taken cmp_operator_form (cmp_operator.Greater t) t old new refl m e
 
-pub cmp_operator_greater_or_equal : (t : Leaf) (old new : List Leaf) → old ≡ t ∷ new → on (is T.GreaterOrEqual) t ≡ true → Taken cmp_operator_form (cmp_operator.GreaterOrEqual t) nothing old new
+pub cmp_operator_greater_or_equal : (t : Leaf) (old new : List Leaf) → old ≡ t ∷ new → on (is T.GreaterOrEqual) t ≡ true → Parsed cmp_operator_form (cmp_operator.GreaterOrEqual t) nothing old new
 cmp_operator_greater_or_equal t old new e m = single_taken cmp_operator_form (cmp_operator.GreaterOrEqual t) t old new refl m e
 
 pub no_cmp_operator : (v : List Leaf) → Stops (on (is T.Equal)) v → Stops (on (is T.NotEqual)) v → Stops (on (is T.Less)) v → Stops (on (is T.LessOrEqual)) v → Stops (on (is T.Greater)) v → Stops (on (is T.GreaterOrEqual)) v → Stops (on is_cmp_operator) v
@@ -43,10 +43,10 @@ no_cmp_operator v a b c d e f = stops_among T.Equal (T.NotEqual ∷ T.Less ∷ T
 
 -- ---- sum_operator
 
-pub sum_operator_plus : (t : Leaf) (old new : List Leaf) → old ≡ t ∷ new → on (is T.Plus) t ≡ true → Taken sum_operator_form (sum_operator.Plus t) nothing old new
+pub sum_operator_plus : (t : Leaf) (old new : List Leaf) → old ≡ t ∷ new → on (is T.Plus) t ≡ true → Parsed sum_operator_form (sum_operator.Plus t) nothing old new
 sum_operator_plus t old new e m = single_taken sum_operator_form (sum_operator.Plus t) t old new refl m e
 
-pub sum_operator_minus : (t : Leaf) (old new : List Leaf) → old ≡ t ∷ new → on (is T.Minus) t ≡ true → Taken sum_operator_form (sum_operator.Minus t) nothing old new
+pub sum_operator_minus : (t : Leaf) (old new : List Leaf) → old ≡ t ∷ new → on (is T.Minus) t ≡ true → Parsed sum_operator_form (sum_operator.Minus t) nothing old new
 sum_operator_minus t old new e m = single_taken sum_operator_form (sum_operator.Minus t) t old new refl m e
 
 pub no_sum_operator : (v : List Leaf) → Stops (on (is T.Plus)) v → Stops (on (is T.Minus)) v → Stops (on is_sum_operator) v
@@ -54,13 +54,13 @@ no_sum_operator v a b = stops_among T.Plus (T.Minus ∷ []) v a (stops_among T.M
 
 -- ---- product_operator
 
-pub product_operator_times : (t : Leaf) (old new : List Leaf) → old ≡ t ∷ new → on (is T.Times) t ≡ true → Taken product_operator_form (product_operator.Times t) nothing old new
+pub product_operator_times : (t : Leaf) (old new : List Leaf) → old ≡ t ∷ new → on (is T.Times) t ≡ true → Parsed product_operator_form (product_operator.Times t) nothing old new
 product_operator_times t old new e m = single_taken product_operator_form (product_operator.Times t) t old new refl m e
 
-pub product_operator_divide : (t : Leaf) (old new : List Leaf) → old ≡ t ∷ new → on (is T.Divide) t ≡ true → Taken product_operator_form (product_operator.Divide t) nothing old new
+pub product_operator_divide : (t : Leaf) (old new : List Leaf) → old ≡ t ∷ new → on (is T.Divide) t ≡ true → Parsed product_operator_form (product_operator.Divide t) nothing old new
 product_operator_divide t old new e m = single_taken product_operator_form (product_operator.Divide t) t old new refl m e
 
-pub product_operator_remainder : (t : Leaf) (old new : List Leaf) → old ≡ t ∷ new → on (is T.Remainder) t ≡ true → Taken product_operator_form (product_operator.Remainder t) nothing old new
+pub product_operator_remainder : (t : Leaf) (old new : List Leaf) → old ≡ t ∷ new → on (is T.Remainder) t ≡ true → Parsed product_operator_form (product_operator.Remainder t) nothing old new
 product_operator_remainder t old new e m = single_taken product_operator_form (product_operator.Remainder t) t old new refl m e
 
 pub no_product_operator : (v : List Leaf) → Stops (on (is T.Times)) v → Stops (on (is T.Divide)) v → Stops (on (is T.Remainder)) v → Stops (on is_product_operator) v
@@ -68,10 +68,10 @@ no_product_operator v a b c = stops_among T.Times (T.Divide ∷ T.Remainder ∷ 
 
 -- ---- specifier
 
-pub specifier_let : (t : Leaf) (old new : List Leaf) → old ≡ t ∷ new → on (is T.Let) t ≡ true → Taken specifier_form (specifier.Let t) nothing old new
+pub specifier_let : (t : Leaf) (old new : List Leaf) → old ≡ t ∷ new → on (is T.Let) t ≡ true → Parsed specifier_form (specifier.Let t) nothing old new
 specifier_let t old new e m = single_taken specifier_form (specifier.Let t) t old new refl m e
 
-pub specifier_var : (t : Leaf) (old new : List Leaf) → old ≡ t ∷ new → on (is T.Var) t ≡ true → Taken specifier_form (specifier.Var t) nothing old new
+pub specifier_var : (t : Leaf) (old new : List Leaf) → old ≡ t ∷ new → on (is T.Var) t ≡ true → Parsed specifier_form (specifier.Var t) nothing old new
 specifier_var t old new e m = single_taken specifier_form (specifier.Var t) t old new refl m e
 
 pub no_specifier : (v : List Leaf) → Stops (on (is T.Let)) v → Stops (on (is T.Var)) v → Stops (on is_specifier) v
@@ -79,16 +79,16 @@ no_specifier v a b = stops_among T.Let (T.Var ∷ []) v a (stops_among T.Var [] 
 
 -- ---- access
 
-pub access_private : (t : Leaf) (old new : List Leaf) → old ≡ t ∷ new → on (is T.Private) t ≡ true → Taken access_form (access.Private t) nothing old new
+pub access_private : (t : Leaf) (old new : List Leaf) → old ≡ t ∷ new → on (is T.Private) t ≡ true → Parsed access_form (access.Private t) nothing old new
 access_private t old new e m = single_taken access_form (access.Private t) t old new refl m e
 
-pub access_fileprivate : (t : Leaf) (old new : List Leaf) → old ≡ t ∷ new → on (is T.Fileprivate) t ≡ true → Taken access_form (access.Fileprivate t) nothing old new
+pub access_fileprivate : (t : Leaf) (old new : List Leaf) → old ≡ t ∷ new → on (is T.Fileprivate) t ≡ true → Parsed access_form (access.Fileprivate t) nothing old new
 access_fileprivate t old new e m = single_taken access_form (access.Fileprivate t) t old new refl m e
 
-pub access_internal : (t : Leaf) (old new : List Leaf) → old ≡ t ∷ new → on (is T.Internal) t ≡ true → Taken access_form (access.Internal t) nothing old new
+pub access_internal : (t : Leaf) (old new : List Leaf) → old ≡ t ∷ new → on (is T.Internal) t ≡ true → Parsed access_form (access.Internal t) nothing old new
 access_internal t old new e m = single_taken access_form (access.Internal t) t old new refl m e
 
-pub access_public : (t : Leaf) (old new : List Leaf) → old ≡ t ∷ new → on (is T.Public) t ≡ true → Taken access_form (access.Public t) nothing old new
+pub access_public : (t : Leaf) (old new : List Leaf) → old ≡ t ∷ new → on (is T.Public) t ≡ true → Parsed access_form (access.Public t) nothing old new
 access_public t old new e m = single_taken access_form (access.Public t) t old new refl m e
 
 pub no_access : (v : List Leaf) → Stops (on (is T.Private)) v → Stops (on (is T.Fileprivate)) v → Stops (on (is T.Internal)) v → Stops (on (is T.Public)) v → Stops (on is_access) v
@@ -96,23 +96,23 @@ no_access v a b c d = stops_among T.Private (T.Fileprivate ∷ T.Internal ∷ T.
 
 -- ---- atoms of one token
 
-pub simple_integer : (t : Leaf) (old new : List Leaf) → old ≡ t ∷ new → on (is T.Integer) t ≡ true → Taken atom_form (atom.Integer t) nothing old new
-simple_integer t old new e m = subst (λ ts. Taken atom_form (atom.Integer t) nothing ts new) (sym e) (atom_integer t new m)
+pub simple_integer : (t : Leaf) (old new : List Leaf) → old ≡ t ∷ new → on (is T.Integer) t ≡ true → Parsed atom_form (atom.Integer t) nothing old new
+simple_integer t old new e m = subst (λ ts. Parsed atom_form (atom.Integer t) nothing ts new) (sym e) (atom_integer t new m)
 
-pub simple_string : (t : Leaf) (old new : List Leaf) → old ≡ t ∷ new → on (is T.StringText) t ≡ true → Taken atom_form (atom.StringText t) nothing old new
-simple_string t old new e m = subst (λ ts. Taken atom_form (atom.StringText t) nothing ts new) (sym e) (atom_string t new m)
+pub simple_string : (t : Leaf) (old new : List Leaf) → old ≡ t ∷ new → on (is T.StringText) t ≡ true → Parsed atom_form (atom.StringText t) nothing old new
+simple_string t old new e m = subst (λ ts. Parsed atom_form (atom.StringText t) nothing ts new) (sym e) (atom_string t new m)
 
-pub simple_true : (t : Leaf) (old new : List Leaf) → old ≡ t ∷ new → on (is T.True) t ≡ true → Taken atom_form (atom.True t) nothing old new
-simple_true t old new e m = subst (λ ts. Taken atom_form (atom.True t) nothing ts new) (sym e) (atom_true t new m)
+pub simple_true : (t : Leaf) (old new : List Leaf) → old ≡ t ∷ new → on (is T.True) t ≡ true → Parsed atom_form (atom.True t) nothing old new
+simple_true t old new e m = subst (λ ts. Parsed atom_form (atom.True t) nothing ts new) (sym e) (atom_true t new m)
 
-pub simple_false : (t : Leaf) (old new : List Leaf) → old ≡ t ∷ new → on (is T.False) t ≡ true → Taken atom_form (atom.False t) nothing old new
-simple_false t old new e m = subst (λ ts. Taken atom_form (atom.False t) nothing ts new) (sym e) (atom_false t new m)
+pub simple_false : (t : Leaf) (old new : List Leaf) → old ≡ t ∷ new → on (is T.False) t ≡ true → Parsed atom_form (atom.False t) nothing old new
+simple_false t old new e m = subst (λ ts. Parsed atom_form (atom.False t) nothing ts new) (sym e) (atom_false t new m)
 
-pub simple_name : (t : Leaf) (old new : List Leaf) → old ≡ t ∷ new → on (is T.Identifier) t ≡ true → Taken atom_form (atom.Name t) nothing old new
-simple_name t old new e m = subst (λ ts. Taken atom_form (atom.Name t) nothing ts new) (sym e) (atom_name t new m)
+pub simple_name : (t : Leaf) (old new : List Leaf) → old ≡ t ∷ new → on (is T.Identifier) t ≡ true → Parsed atom_form (atom.Name t) nothing old new
+simple_name t old new e m = subst (λ ts. Parsed atom_form (atom.Name t) nothing ts new) (sym e) (atom_name t new m)
 
-pub simple_self : (t : Leaf) (old new : List Leaf) → old ≡ t ∷ new → on (is T.SelfValue) t ≡ true → Taken atom_form (atom.SelfValue t) nothing old new
-simple_self t old new e m = subst (λ ts. Taken atom_form (atom.SelfValue t) nothing ts new) (sym e) (atom_self t new m)
+pub simple_self : (t : Leaf) (old new : List Leaf) → old ≡ t ∷ new → on (is T.SelfValue) t ≡ true → Parsed atom_form (atom.SelfValue t) nothing old new
+simple_self t old new e m = subst (λ ts. Parsed atom_form (atom.SelfValue t) nothing ts new) (sym e) (atom_self t new m)
 
 pub no_simple_atom : (v : List Leaf) → Stops (on (is T.Integer)) v → Stops (on (is T.StringText)) v → Stops (on (is T.True)) v → Stops (on (is T.False)) v → Stops (on (is T.Identifier)) v → Stops (on (is T.SelfValue)) v → Stops (on is_simple_atom) v
 no_simple_atom v a b c d e f = stops_among T.Integer (T.StringText ∷ T.True ∷ T.False ∷ T.Identifier ∷ T.SelfValue ∷ []) v a (stops_among T.StringText (T.True ∷ T.False ∷ T.Identifier ∷ T.SelfValue ∷ []) v b (stops_among T.True (T.False ∷ T.Identifier ∷ T.SelfValue ∷ []) v c (stops_among T.False (T.Identifier ∷ T.SelfValue ∷ []) v d (stops_among T.Identifier (T.SelfValue ∷ []) v e (stops_among T.SelfValue [] v f (stops_none v))))))

@@ -109,8 +109,8 @@ begins_computed (specifier.Let t) value = false
 abbrev pub stored_member_form : Form Leaf Stored
 stored_member_form = record {
   tokens = stored_form.tokens;
-  is_right = stored_form.is_right;
-  goes_on = λ s. cond (begins_computed s.specifier s.value) (on (or (is T.Assign) (is T.LeftBrace))) (stored_form.goes_on s);
+  is_well_formed = stored_form.is_well_formed;
+  continues = λ s. cond (begins_computed s.specifier s.value) (on (or (is T.Assign) (is T.LeftBrace))) (stored_form.continues s);
 }
 
 abbrev pub struct_member_reading : StructMember → R

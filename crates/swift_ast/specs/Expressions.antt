@@ -1,7 +1,7 @@
 -- The rules of expressions, each over what its parts give, and the forms of their trees.
 use Rattle.std.specs.Prelude.{List, Option}
 use Rattle.grammar.specs.Forms.{Form, token, both, perhaps, once, trail, chain, labelled}
-use Rattle.grammar.specs.Shows.{Reading, reading, given, seen}
+use Rattle.grammar.specs.Shows.{TreeFacts, reading, given, seen}
 use Rattle.swift_ast.specs.declared.terminals.Terminal.{Terminal}
 use Rattle.swift_ast.specs.declared.terminals.Terminal.TheVariants as T
 use Rattle.swift_ast.specs.declared.expressions.CmpOperator.{CmpOperator}
@@ -29,7 +29,7 @@ abbrev pub word : Terminal → Form Leaf Leaf
 word terminal = token (on (is terminal))
 
 -- An operator that compares.
-abbrev pub cmp_operator_reading : CmpOperator → Reading Leaf
+abbrev pub cmp_operator_reading : CmpOperator → TreeFacts Leaf
 cmp_operator_reading (Equal t) = reading (word T.Equal) t
 cmp_operator_reading (NotEqual t) = reading (word T.NotEqual) t
 cmp_operator_reading (Less t) = reading (word T.Less) t
@@ -41,7 +41,7 @@ abbrev pub cmp_operator_form : Form Leaf CmpOperator
 cmp_operator_form = seen cmp_operator_reading
 
 -- An operator between the terms of a sum.
-abbrev pub sum_operator_reading : SumOperator → Reading Leaf
+abbrev pub sum_operator_reading : SumOperator → TreeFacts Leaf
 sum_operator_reading (Plus t) = reading (word T.Plus) t
 sum_operator_reading (Minus t) = reading (word T.Minus) t
 
@@ -49,7 +49,7 @@ abbrev pub sum_operator_form : Form Leaf SumOperator
 sum_operator_form = seen sum_operator_reading
 
 -- An operator between the factors of a product.
-abbrev pub product_operator_reading : ProductOperator → Reading Leaf
+abbrev pub product_operator_reading : ProductOperator → TreeFacts Leaf
 product_operator_reading (Times t) = reading (word T.Times) t
 product_operator_reading (Divide t) = reading (word T.Divide) t
 product_operator_reading (Remainder t) = reading (word T.Remainder) t
@@ -107,7 +107,7 @@ parentheses_rule expr = both (word T.LeftParenthesis) (both expr (word T.RightPa
 
 -- What each tree gives by what its parts gave.
 abbrev pub R : Type 0
-R = Reading Leaf
+R = TreeFacts Leaf
 
 abbrev pub one_expr : Expr-F R R R R R R R R R R R → R
 one_expr x = reading (expr_rule given) (x.first, x.more)

@@ -34,7 +34,7 @@ on_new_line test terminal first = test terminal first && first
 abbrev pub on_same_line : Test → Test
 on_same_line test terminal first = test terminal first && not first
 
--- the operators of each level, and what goes on with an operand of it
+-- the operators of each level, and what continues with an operand of it
 abbrev pub is_prefix_operator : Test
 is_prefix_operator = among (T.Minus ∷ T.Not ∷ [])
 

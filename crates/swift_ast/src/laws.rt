@@ -1,6 +1,6 @@
 ghost use Rattle.swift_ast.specs.Laws.{FileHasOneTree, ExpressionHasOneTree, BlockHasOneTree, FileClosesBrackets};
 
-/// The grammar is unambiguous: no two right trees of a file's declarations have the same tokens, nor
+/// The grammar is unambiguous: no two well-formed trees of a file's declarations have the same tokens, nor
 /// two expressions, nor two blocks. And a file's declarations close the brackets that they open, and
 /// no more.
 pub fn grammar_laws()

@@ -12,6 +12,7 @@ mod no_memory;
 mod statements;
 mod terminals;
 mod text;
+mod threads;
 mod tokens;
 
 pub use declarations::{
@@ -28,7 +29,5 @@ pub use no_memory::NoMemory;
 pub use statements::{BindingSpecifier, Block, Call, ElseIf, If, Stmt, Target, TypeName};
 pub use terminals::Terminal;
 pub use text::Text;
+pub use threads::file_tree_crosses_threads;
 pub use tokens::{Leaf, Token, TokenKind};
-
-#[cfg(test)]
-mod tests;

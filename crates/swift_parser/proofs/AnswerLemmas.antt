@@ -2,7 +2,7 @@
 use Rattle.std.proofs.Common.{◌≡◌, ℕ, ◌+◌, ◌≤◌, Bool, List, [], ◌∷◌, ◌++◌, length, Option, Some, None, sym, ◌∙◌, ap, subst, arith}
 use Rattle.std.proofs.lemmas.List.{append_assoc, length-append}
 use Rattle.grammar.specs.Forms.{Form}
-use Rattle.grammar.specs.Faults.{One}
+use Rattle.grammar.specs.Faults.{IsUnambiguous}
 use Rattle.grammar.specs.Whole.{IsWhole, IsBeginning, IsFirstFault}
 use Rattle.grammar.specs.Levels.{too_deep, NotBehind, IsTree, IsUnexpected, IsTooDeep}
 use Rattle.grammar.proofs.Basics.{head_of, tail_of, cons_is}
@@ -34,7 +34,7 @@ fronts (x ∷ a) [] rest more t u e l = absurd (longer a rest more t u (tail_of 
 fronts (x ∷ a) (y ∷ b) rest more t u e l =
     fronts_next x y a b t u (head_of x y (a ++ (t ∷ rest)) (b ++ (u ∷ more)) e) (fronts a b rest more t u (tail_of x y (a ++ (t ∷ rest)) (b ++ (u ∷ more)) e) l)
 
-pub tree_one : {T X : Type 0} (opens closes : T → Bool) (limit : ℕ) (f : Form T X) (ts : List T) (x y : X) → One f → IsTree opens closes limit f ts x → IsTree opens closes limit f ts y → x ≡ y
+pub tree_one : {T X : Type 0} (opens closes : T → Bool) (limit : ℕ) (f : Form T X) (ts : List T) (x y : X) → IsUnambiguous f → IsTree opens closes limit f ts x → IsTree opens closes limit f ts y → x ≡ y
 tree_one opens closes limit f ts x y one v w = one_whole f ts one (x, v.0, v.1) (y, w.0, w.1)
 
 pub tree_expected : {T X : Type 0} (opens closes : T → Bool) (limit : ℕ) (f : Form T X) (ts rest : List T) (x : X) → IsTree opens closes limit f ts x → IsUnexpected opens closes limit f ts rest → ⊥
@@ -50,7 +50,7 @@ pub too_deep_one : {T X : Type 0} (opens closes : T → Bool) (limit : ℕ) (f :
 too_deep_one opens closes limit f ts rest other d e = some_is rest other (sym d.deep ∙ e.deep)
 
 behind_bracket : {T X : Type 0} (f : Form T X) (before front rest more : List T) (bracket : T) → IsBeginning f (before ++ (bracket ∷ [])) → front ++ rest ≡ before ++ (bracket ∷ more) → length (bracket ∷ more) ≤ length rest
-    → Rattle.grammar.specs.Whole.CannotGoOn f front rest → ⊥
+    → Rattle.grammar.specs.Whole.CannotContinue f front rest → ⊥
 behind_bracket f before front [] more bracket b e l c = omega (arith, l)
 behind_bracket f before front (t ∷ rest) more bracket b e l c =
     let s = fronts front before rest more t bracket e l in

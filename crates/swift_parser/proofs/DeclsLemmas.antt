@@ -2,7 +2,7 @@
 use Rattle.std.proofs.Common.{◌≡◌, ℕ, zero, suc, ◌+◌, ◌<◌, ◌==◌, true, false, List, [], ◌∷◌, ◌++◌, length, map, take, drop, Some, Err, refl, sym, ◌∙◌, ap, subst, arith}
 use Rattle.std.proofs.lemmas.Bool.{true≢false, eqb-true}
 use Rattle.std.proofs.lemmas.List.{length-append, length-drop}
-use Rattle.grammar.specs.Faults.{Taken, Refused}
+use Rattle.grammar.specs.Faults.{Parsed, FailsAt}
 use Rattle.grammar.specs.Whole.{IsFirstFault}
 use Rattle.grammar.proofs.Wholes.{whole_left, whole_refused, whole_taken}
 use Rattle.grammar.proofs.Cuts.{Split, deep_split, cut_no_whole, cut_end, cut_unexpected}
@@ -17,21 +17,21 @@ use Rattle.token_cursor.specs.declared.stop.Stop.{Stop}
 use Rattle.token_cursor.specs.declared.stop.Stop.TheVariants as stop
 use Rattle.swift_parser.specs.declared.faults.ParseFault.{ParseFault}
 use Rattle.swift_parser.specs.declared.faults.ParseFault.TheVariants as fault
-use Rattle.token_cursor.specs.Reading.{Reads}
+use Rattle.token_cursor.specs.Reading.{Parses}
 use Rattle.swift_parser.specs.Whole.{DeepAt, DeclsGive, IsTooDeepHere, IsUnexpectedHere}
 
 -- tokens are left behind the last declaration
-pub left_over : (all : List Decl) (ts old new : List Leaf) (rest : List Token) → old ≡ ts → map leaf_of rest ≡ new → (length rest == 0) ≡ false → Taken decls_form all (decls_form.goes_on all) old new → IsFirstFault decls_form ts (map leaf_of rest)
+pub left_over : (all : List Decl) (ts old new : List Leaf) (rest : List Token) → old ≡ ts → map leaf_of rest ≡ new → (length rest == 0) ≡ false → Parsed decls_form all (decls_form.continues all) old new → IsFirstFault decls_form ts (map leaf_of rest)
 left_over all ts old new [] o n e t = absurd (true≢false e)
 left_over all ts old new (r ∷ rest) o n e t =
     whole_left decls_form all ts (leaf_of r) (map leaf_of rest) decls_one
-    (subst (λ us. Taken decls_form all (decls_form.goes_on all) us (map leaf_of (r ∷ rest))) o (subst (λ us. Taken decls_form all (decls_form.goes_on all) old us) (sym n) t))
+    (subst (λ us. Parsed decls_form all (decls_form.continues all) us (map leaf_of (r ∷ rest))) o (subst (λ us. Parsed decls_form all (decls_form.continues all) old us) (sym n) t))
 
 -- a declaration was refused
-pub stopped : (e : Stop) (ts old new : List Leaf) (rest : List Token) → e ≡ stop.Refused → old ≡ ts → map leaf_of rest ≡ new → Reads decls_form (Err e) old new → IsFirstFault decls_form ts (map leaf_of rest)
+pub stopped : (e : Stop) (ts old new : List Leaf) (rest : List Token) → e ≡ stop.Unexpected → old ≡ ts → map leaf_of rest ≡ new → Parses decls_form (Err e) old new → IsFirstFault decls_form ts (map leaf_of rest)
 stopped e ts old new rest is o n r =
-    let refused : Refused decls_form old new = subst (λ z. Reads decls_form (Err z) old new) is r in
-    whole_refused decls_form ts (map leaf_of rest) (subst (λ us. Refused decls_form us (map leaf_of rest)) o (subst (λ us. Refused decls_form old us) (sym n) refused))
+    let refused : FailsAt decls_form old new = subst (λ z. Parses decls_form (Err z) old new) is r in
+    whole_refused decls_form ts (map leaf_of rest) (subst (λ us. FailsAt decls_form us (map leaf_of rest)) o (subst (λ us. FailsAt decls_form old us) (sym n) refused))
 
 map_take : (n : ℕ) (tokens : List Token) → map leaf_of (take n tokens) ≡ take n (map leaf_of tokens)
 map_take zero tokens = refl
@@ -69,11 +69,11 @@ split_of : (ts : List Leaf) (at : ℕ) → DeepAt (Some at) ts → CutAt ts at
 split_of ts at d = deep_split (on opens_level) (on closes_level) 100 0 ts (drop at ts) d.0
 
 -- they are no file
-pub cut_tree : (tokens cut : List Token) (at : ℕ) (all : List Decl) → DeepAt (Some at) (map leaf_of tokens) → cut ≡ take (at + 1) tokens → Taken decls_form all (decls_form.goes_on all) (map leaf_of cut) [] → ⊥
+pub cut_tree : (tokens cut : List Token) (at : ℕ) (all : List Decl) → DeepAt (Some at) (map leaf_of tokens) → cut ≡ take (at + 1) tokens → Parsed decls_form all (decls_form.continues all) (map leaf_of cut) [] → ⊥
 cut_tree tokens cut at all d e t =
     let s = split_of (map leaf_of tokens) at d in
     cut_no_whole (on opens_level) (on closes_level) decls_form 100 (map leaf_of tokens) (drop at (map leaf_of tokens)) decls_balanced s
-    (whole_taken decls_form all (s.before ++ (s.bracket ∷ [])) (subst (λ us. Taken decls_form all (decls_form.goes_on all) us []) (cut_is tokens cut at d.1 s e) t))
+    (whole_taken decls_form all (s.before ++ (s.bracket ∷ [])) (subst (λ us. Parsed decls_form all (decls_form.continues all) us []) (cut_is tokens cut at d.1 s e) t))
 
 cut_fault : (tokens cut : List Token) (at : ℕ) (rest : List Leaf) (d : DeepAt (Some at) (map leaf_of tokens)) → cut ≡ take (at + 1) tokens → IsFirstFault decls_form (map leaf_of cut) rest
     → IsFirstFault decls_form ((split_of (map leaf_of tokens) at d).before ++ ((split_of (map leaf_of tokens) at d).bracket ∷ [])) rest

@@ -1,7 +1,7 @@
 -- What a file is: exactly its tree, or exactly its first fault.
 use Rattle.std.proofs.Common.{◌≡◌, ℕ, ◌<◌, ◌≤◌, ◌↔◌, List, [], ◌∷◌, length, refl, sym, ◌∙◌, ap, subst, arith, Ok, Err}
 use Rattle.std.specs.Str.{IsUtf8}
-use Rattle.grammar.specs.Faults.{One}
+use Rattle.grammar.specs.Faults.{IsUnambiguous}
 use Rattle.swift_ast.specs.declared.declarations.FileTree.{FileTree}
 use Rattle.swift_ast.specs.declared.declarations.Decl.{Decl}
 use Rattle.swift_ast.specs.Leaves.{Leaf}
@@ -11,7 +11,7 @@ use Rattle.swift_token.specs.declared.faults.LexFault.{LexFault}
 use Rattle.swift_token.specs.Faults.{Spells, HasFault}
 use Rattle.swift_parser.specs.declared.faults.ParseFault.{ParseFault}
 use Rattle.swift_parser.specs.declared.faults.ParseFault.TheVariants as fault
-use Rattle.swift_parser.specs.Whole.{IsReadable, AreOf, IsTreeOf, IsAt, IsUnexpectedAt, IsTooDeepAt, IsFaultOf, IsOneFault, Parses, DeclsGive, TellsTokens}
+use Rattle.swift_parser.specs.Whole.{IsReadable, AreOf, IsTreeOf, IsAt, IsUnexpectedAt, IsTooDeepAt, IsFaultOf, IsOneFault, ParsesFile, DeclsGive, TellsTokens}
 use Rattle.swift_parser.proofs.AnswerLemmas.{tree_one, tree_expected, tree_shallow, unexpected_one, too_deep_one, deep_expected}
 
 too_long : (n : ℕ) → n ≤ 262144 → 262144 < n → ⊥
@@ -50,7 +50,7 @@ tree_no_fault bytes ts decls r tells a (fault.TooDeep line column) g =
     tree_shallow (on opens_level) (on closes_level) 100 decls_form ts g.1.1 decls a (subst (λ us. IsTooDeepAt us g.1.1) (sym (same_tokens bytes ts g.1.0 tells g.1.3)) g.1.4)
 tree_no_fault bytes ts decls r tells a fault.NoMemory g = g
 
-pub parsed : (one : One decls_form) (path bytes : List ℕ) (ts : List Leaf) (found : FileTree) → IsReadable bytes → TellsTokens bytes ts → AreOf ts found.decls → found.path ≡ path → Parses path bytes (Ok found)
+pub parsed : (one : IsUnambiguous decls_form) (path bytes : List ℕ) (ts : List Leaf) (found : FileTree) → IsReadable bytes → TellsTokens bytes ts → AreOf ts found.decls → found.path ≡ path → ParsesFile path bytes (Ok found)
 parsed one path bytes ts found r tells a p = (
   λ tree. (
     λ e. subst (λ z. IsTreeOf path bytes z) e (r, (ts, spelled bytes ts tells, a), p),
@@ -99,7 +99,7 @@ too_deep_found path bytes ts rest line column text r tells d at = (
   λ tree t. tree_shallow (on opens_level) (on closes_level) 100 decls_form ts rest tree.decls (subst (λ us. AreOf us tree.decls) (sym (same_tokens bytes ts t.1.0 tells t.1.1)) t.1.2) d,
 )
 
-pub refused : (path bytes : List ℕ) (ts : List Leaf) (found : ParseFault) → IsReadable bytes → TellsTokens bytes ts → DeclsGive bytes ts (Err found) → Parses path bytes (Err found)
+pub refused : (path bytes : List ℕ) (ts : List Leaf) (found : ParseFault) → IsReadable bytes → TellsTokens bytes ts → DeclsGive bytes ts (Err found) → ParsesFile path bytes (Err found)
 refused path bytes ts fault.TooLarge r tells g = absurd g
 refused path bytes ts fault.NotUtf8 r tells g = absurd g
 refused path bytes ts (fault.Lex f) r tells g = absurd g
@@ -117,7 +117,7 @@ large_same bytes l (fault.Unexpected line column text) g = absurd (too_long (len
 large_same bytes l (fault.TooDeep line column) g = absurd (too_long (length bytes) g.0.0 l)
 large_same bytes l fault.NoMemory g = absurd g
 
-pub too_large : (path bytes : List ℕ) → 262144 < length bytes → Parses path bytes (Err fault.TooLarge)
+pub too_large : (path bytes : List ℕ) → 262144 < length bytes → ParsesFile path bytes (Err fault.TooLarge)
 too_large path bytes l = (λ f. (λ e. subst (λ z. IsFaultOf bytes z) e l, large_same bytes l f), λ tree t. too_long (length bytes) t.0.0 l)
 
 coded_same : (bytes : List ℕ) → length bytes ≤ 262144 → (IsUtf8 bytes → ⊥) → (f : ParseFault) → IsFaultOf bytes f → fault.NotUtf8 ≡ f
@@ -128,7 +128,7 @@ coded_same bytes l u (fault.Unexpected line column text) g = absurd (u g.0.1)
 coded_same bytes l u (fault.TooDeep line column) g = absurd (u g.0.1)
 coded_same bytes l u fault.NoMemory g = absurd g
 
-pub not_utf8 : (path bytes : List ℕ) → length bytes ≤ 262144 → (IsUtf8 bytes → ⊥) → Parses path bytes (Err fault.NotUtf8)
+pub not_utf8 : (path bytes : List ℕ) → length bytes ≤ 262144 → (IsUtf8 bytes → ⊥) → ParsesFile path bytes (Err fault.NotUtf8)
 not_utf8 path bytes l u = (λ f. (λ e. subst (λ z. IsFaultOf bytes z) e (l, u), coded_same bytes l u f), λ tree t. u t.0.1)
 
 -- the tokens of a file are told by its one lexical fault
@@ -143,7 +143,7 @@ lexed_same bytes found r tells (fault.Unexpected line column text) g = absurd (t
 lexed_same bytes found r tells (fault.TooDeep line column) g = absurd (tells.1 g.1.0 g.1.3)
 lexed_same bytes found r tells fault.NoMemory g = absurd g
 
-pub lexed : (path bytes : List ℕ) (found : LexFault) → IsReadable bytes → TellsFault found bytes → Parses path bytes (Err (fault.Lex found))
+pub lexed : (path bytes : List ℕ) (found : LexFault) → IsReadable bytes → TellsFault found bytes → ParsesFile path bytes (Err (fault.Lex found))
 lexed path bytes found r tells = (
   λ f. (λ e. subst (λ z. IsFaultOf bytes z) e (r, (tells.0 found).0 refl), lexed_same bytes found r tells f),
   λ tree t. tells.1 t.1.0 t.1.1,

@@ -10,7 +10,7 @@ use Rattle.swift_ast.specs.Declarations.{decls_form}
 use Rattle.swift_token.specs.declared.faults.LexFault.{LexFault}
 use Rattle.swift_token.specs.Spelling.{line_behind, column_behind}
 use Rattle.swift_token.specs.Faults.{Spells, HasFault}
-use Rattle.grammar.specs.Faults.{Taken}
+use Rattle.grammar.specs.Faults.{Parsed}
 use Rattle.grammar.specs.Whole.{IsFirstFault}
 use Rattle.swift_parser.specs.declared.file.Ended.{Ended}
 use Rattle.swift_parser.specs.declared.file.Ended.TheVariants as ended
@@ -21,7 +21,7 @@ use Rattle.swift_parser.specs.declared.faults.ParseFault.TheVariants as fault
 abbrev pub IsReadable : List ℕ → Type 0
 IsReadable bytes = (length bytes ≤ 262144) × IsUtf8 bytes
 
--- The tokens are those of a right tree, and at most 100 levels of brackets are open.
+-- The tokens are those of a well-formed tree, and at most 100 levels of brackets are open.
 abbrev pub AreOf : List Leaf → List Decl → Type 0
 AreOf ts decls = IsTree (on opens_level) (on closes_level) 100 decls_form ts decls
 
@@ -60,14 +60,14 @@ abbrev pub IsOneFault : List ℕ → List ℕ → ParseFault → Type 0
 IsOneFault path bytes found = ((f : ParseFault) → (found ≡ f) ↔ IsFaultOf bytes f) × ((tree : FileTree) → ¬ IsTreeOf path bytes tree)
 
 -- Exactly the one tree of a file, or exactly its one fault, unless memory ran out.
-abbrev pub Parses : List ℕ → List ℕ → Result FileTree ParseFault → Type 0
-Parses path bytes (Ok found) = ((tree : FileTree) → (found ≡ tree) ↔ IsTreeOf path bytes tree) × ((f : ParseFault) → ¬ IsFaultOf bytes f)
-Parses path bytes (Err fault.TooLarge) = IsOneFault path bytes fault.TooLarge
-Parses path bytes (Err fault.NotUtf8) = IsOneFault path bytes fault.NotUtf8
-Parses path bytes (Err (fault.Lex f)) = IsOneFault path bytes (fault.Lex f)
-Parses path bytes (Err (fault.Unexpected line column text)) = IsOneFault path bytes (fault.Unexpected line column text)
-Parses path bytes (Err (fault.TooDeep line column)) = IsOneFault path bytes (fault.TooDeep line column)
-Parses path bytes (Err fault.NoMemory) = Unit {0}
+abbrev pub ParsesFile : List ℕ → List ℕ → Result FileTree ParseFault → Type 0
+ParsesFile path bytes (Ok found) = ((tree : FileTree) → (found ≡ tree) ↔ IsTreeOf path bytes tree) × ((f : ParseFault) → ¬ IsFaultOf bytes f)
+ParsesFile path bytes (Err fault.TooLarge) = IsOneFault path bytes fault.TooLarge
+ParsesFile path bytes (Err fault.NotUtf8) = IsOneFault path bytes fault.NotUtf8
+ParsesFile path bytes (Err (fault.Lex f)) = IsOneFault path bytes (fault.Lex f)
+ParsesFile path bytes (Err (fault.Unexpected line column text)) = IsOneFault path bytes (fault.Unexpected line column text)
+ParsesFile path bytes (Err (fault.TooDeep line column)) = IsOneFault path bytes (fault.TooDeep line column)
+ParsesFile path bytes (Err fault.NoMemory) = Unit {0}
 
 -- the place of the first bracket that opens a level above the limit
 abbrev pub DeepAt : Option ℕ → List Leaf → Type 0
@@ -104,7 +104,7 @@ IsTooDeepHere bytes rest (fault.Lex f) = ⊥
 
 -- the tokens are those of the declarations, or their first fault stands where the rest begins
 abbrev pub AreAll : Result (List Decl) Ended → List Leaf → Type 0
-AreAll (Ok decls) ts = Taken decls_form decls (decls_form.goes_on decls) ts []
+AreAll (Ok decls) ts = Parsed decls_form decls (decls_form.continues decls) ts []
 AreAll (Err (ended.At rest)) ts = IsFirstFault decls_form ts (map leaf_of rest.now)
 AreAll (Err ended.NoMemory) ts = Unit {0}
 

@@ -5,7 +5,7 @@ ghost use Rattle.swift_ast.specs.declared.terminals.Terminal.TheVariants as T;
 ghost use Rattle.swift_ast.specs.Tests.{on, is, is_access, is_label, begins_struct_member, begins_extension_member, on_new_line};
 ghost use Rattle.swift_ast.specs.Expressions.{expr_form};
 ghost use Rattle.swift_ast.specs.Declarations.{access_form, param_form, params_rule, result_rule, func_form, initial_rule, stored_value_form, stored_form, computed_form, struct_member_form, with_access, struct_form, extension_member_form, extension_form, alias_form, named_form, decl_form, decls_form};
-ghost use Rattle.token_cursor.specs.Reading.{Reads, TakesIf, Shortens};
+ghost use Rattle.token_cursor.specs.Reading.{Parses, TakesIf, Shortens};
 
 use crate::expressions::expr;
 use crate::statements::{binding_behind, block, specifier, type_name};
@@ -15,39 +15,39 @@ use swift_ast::{
     Access, Alias, BindingSpecifier, Computed, Decl, Expr, Extension, ExtensionMember, Func, Leaf,
     NamedDecl, Param, Stored, StoredValue, Struct, StructMember, Terminal, TypeName,
 };
-use token_cursor::{Stop, Test, Tokens};
+use token_cursor::{Stop, TokenClass, TokenCursor};
 
 /// Who may see a declaration, if it is said next.
-fn access(alloc: Global, tokens: &mut Tokens<'_>) -> Result<Option<Access>, AllocError>
+fn access(alloc: Global, tokens: &mut TokenCursor<'_>) -> Result<Option<Access>, AllocError>
     ensures takes { IfOk result (λ found. TakesIf (on is_access) access_form found tokens.old tokens.new) }
     ensures shrinks { length tokens.new ≤ length tokens.old }
     ensures shortens { IfOk result (λ found. Shortens found tokens.old tokens.new) }
 {
-    if let Some(t) = tokens.eat(alloc, Test::Is(Terminal::Private))? {
+    if let Some(t) = tokens.eat(alloc, TokenClass::Is(Terminal::Private))? {
         return Ok(Some(Access::Private(t)));
     }
-    if let Some(t) = tokens.eat(alloc, Test::Is(Terminal::Fileprivate))? {
+    if let Some(t) = tokens.eat(alloc, TokenClass::Is(Terminal::Fileprivate))? {
         return Ok(Some(Access::Fileprivate(t)));
     }
-    if let Some(t) = tokens.eat(alloc, Test::Is(Terminal::Internal))? {
+    if let Some(t) = tokens.eat(alloc, TokenClass::Is(Terminal::Internal))? {
         return Ok(Some(Access::Internal(t)));
     }
-    if let Some(t) = tokens.eat(alloc, Test::Is(Terminal::Public))? {
+    if let Some(t) = tokens.eat(alloc, TokenClass::Is(Terminal::Public))? {
         return Ok(Some(Access::Public(t)));
     }
     Ok(None)
 }
 
-fn param(alloc: Global, tokens: &mut Tokens<'_>) -> Result<Param, Stop>
-    ensures reads { Reads param_form result tokens.old tokens.new }
+fn param(alloc: Global, tokens: &mut TokenCursor<'_>) -> Result<Param, Stop>
+    ensures reads { Parses param_form result tokens.old tokens.new }
     ensures shrinks { length tokens.new ≤ length tokens.old }
 {
-    if let Some(wildcard) = tokens.eat(alloc, Test::Is(Terminal::Wildcard))? {
-        let name = tokens.expect(alloc, Test::Is(Terminal::Identifier))?;
+    if let Some(wildcard) = tokens.eat(alloc, TokenClass::Is(Terminal::Wildcard))? {
+        let name = tokens.expect(alloc, TokenClass::Is(Terminal::Identifier))?;
         return labelled_behind(alloc, tokens, wildcard, name);
     }
-    let first = tokens.expect(alloc, Test::Is(Terminal::Identifier))?;
-    if let Some(name) = tokens.eat(alloc, Test::Is(Terminal::Identifier))? {
+    let first = tokens.expect(alloc, TokenClass::Is(Terminal::Identifier))?;
+    if let Some(name) = tokens.eat(alloc, TokenClass::Is(Terminal::Identifier))? {
         return labelled_behind(alloc, tokens, first, name);
     }
     plain_behind(alloc, tokens, first)
@@ -56,16 +56,16 @@ fn param(alloc: Global, tokens: &mut Tokens<'_>) -> Result<Param, Stop>
 /// A parameter behind its label and its name.
 fn labelled_behind(
     alloc: Global,
-    tokens: &mut Tokens<'_>,
+    tokens: &mut TokenCursor<'_>,
     label: Leaf,
     name: Leaf,
 ) -> Result<Param, Stop>
     requires label { on is_label label ≡ true }
     requires name { on (is T.Identifier) name ≡ true }
-    ensures reads { Reads param_form result (label ∷ (name ∷ tokens.old)) tokens.new }
+    ensures reads { Parses param_form result (label ∷ (name ∷ tokens.old)) tokens.new }
     ensures shrinks { length tokens.new ≤ length tokens.old }
 {
-    let colon = tokens.expect(alloc, Test::Is(Terminal::Colon))?;
+    let colon = tokens.expect(alloc, TokenClass::Is(Terminal::Colon))?;
     let written = type_name(alloc, tokens)?;
     Ok(Param {
         label: Some(label),
@@ -76,13 +76,13 @@ fn labelled_behind(
 }
 
 /// A parameter behind its name, where that is no label.
-fn plain_behind(alloc: Global, tokens: &mut Tokens<'_>, name: Leaf) -> Result<Param, Stop>
+fn plain_behind(alloc: Global, tokens: &mut TokenCursor<'_>, name: Leaf) -> Result<Param, Stop>
     requires name { on (is T.Identifier) name ≡ true }
     requires alone { Stops (on (is T.Identifier)) tokens.old }
-    ensures reads { Reads param_form result (name ∷ tokens.old) tokens.new }
+    ensures reads { Parses param_form result (name ∷ tokens.old) tokens.new }
     ensures shrinks { length tokens.new ≤ length tokens.old }
 {
-    let colon = tokens.expect(alloc, Test::Is(Terminal::Colon))?;
+    let colon = tokens.expect(alloc, TokenClass::Is(Terminal::Colon))?;
     let written = type_name(alloc, tokens)?;
     Ok(Param {
         label: None,
@@ -94,43 +94,46 @@ fn plain_behind(alloc: Global, tokens: &mut Tokens<'_>, name: Leaf) -> Result<Pa
 
 fn params(
     alloc: Global,
-    tokens: &mut Tokens<'_>,
+    tokens: &mut TokenCursor<'_>,
 ) -> Result<Option<(Param, Items<(Leaf, Param)>)>, Stop>
-    ensures reads { Reads params_rule result tokens.old tokens.new }
+    ensures reads { Parses params_rule result tokens.old tokens.new }
     ensures shrinks { length tokens.new ≤ length tokens.old }
 {
-    if !tokens.sees(Test::Label) {
+    if !tokens.sees(TokenClass::Label) {
         return Ok(None);
     }
     let first = param(alloc, tokens)?;
     let mut more = Items::new(alloc);
-    while let Some(comma) = tokens.eat(alloc, Test::Is(Terminal::Comma))? {
+    while let Some(comma) = tokens.eat(alloc, TokenClass::Is(Terminal::Comma))? {
         let next = param(alloc, tokens)?;
         more.push((comma, next))?;
     }
     Ok(Some((first, more)))
 }
 
-fn result_type(alloc: Global, tokens: &mut Tokens<'_>) -> Result<Option<(Leaf, TypeName)>, Stop>
-    ensures reads { Reads result_rule result tokens.old tokens.new }
+fn result_type(
+    alloc: Global,
+    tokens: &mut TokenCursor<'_>,
+) -> Result<Option<(Leaf, TypeName)>, Stop>
+    ensures reads { Parses result_rule result tokens.old tokens.new }
     ensures shrinks { length tokens.new ≤ length tokens.old }
 {
-    let Some(arrow) = tokens.eat(alloc, Test::Is(Terminal::Arrow))? else {
+    let Some(arrow) = tokens.eat(alloc, TokenClass::Is(Terminal::Arrow))? else {
         return Ok(None);
     };
     let written = type_name(alloc, tokens)?;
     Ok(Some((arrow, written)))
 }
 
-fn func_behind(alloc: Global, tokens: &mut Tokens<'_>, keyword: Leaf) -> Result<Func, Stop>
+fn func_behind(alloc: Global, tokens: &mut TokenCursor<'_>, keyword: Leaf) -> Result<Func, Stop>
     requires keyword { on (is T.Func) keyword ≡ true }
-    ensures reads { Reads func_form result (keyword ∷ tokens.old) tokens.new }
+    ensures reads { Parses func_form result (keyword ∷ tokens.old) tokens.new }
     ensures shrinks { length tokens.new ≤ length tokens.old }
 {
-    let name = tokens.expect(alloc, Test::Is(Terminal::Identifier))?;
-    let opening = tokens.expect(alloc, Test::Is(Terminal::LeftParenthesis))?;
+    let name = tokens.expect(alloc, TokenClass::Is(Terminal::Identifier))?;
+    let opening = tokens.expect(alloc, TokenClass::Is(Terminal::LeftParenthesis))?;
     let params = params(alloc, tokens)?;
-    let closing = tokens.expect(alloc, Test::Is(Terminal::RightParenthesis))?;
+    let closing = tokens.expect(alloc, TokenClass::Is(Terminal::RightParenthesis))?;
     let result_type = result_type(alloc, tokens)?;
     let body = block(alloc, tokens)?;
     Ok(Func {
@@ -145,23 +148,23 @@ fn func_behind(alloc: Global, tokens: &mut Tokens<'_>, keyword: Leaf) -> Result<
 }
 
 /// `=` and an initial value, or nothing.
-fn initial(alloc: Global, tokens: &mut Tokens<'_>) -> Result<Option<(Leaf, Expr)>, Stop>
-    ensures reads { Reads initial_rule result tokens.old tokens.new }
+fn initial(alloc: Global, tokens: &mut TokenCursor<'_>) -> Result<Option<(Leaf, Expr)>, Stop>
+    ensures reads { Parses initial_rule result tokens.old tokens.new }
     ensures shrinks { length tokens.new ≤ length tokens.old }
 {
-    let Some(assign) = tokens.eat(alloc, Test::Is(Terminal::Assign))? else {
+    let Some(assign) = tokens.eat(alloc, TokenClass::Is(Terminal::Assign))? else {
         return Ok(None);
     };
     let value = expr(alloc, tokens)?;
     Ok(Some((assign, value)))
 }
 
-fn stored_value(alloc: Global, tokens: &mut Tokens<'_>) -> Result<StoredValue, Stop>
-    ensures reads { Reads stored_value_form result tokens.old tokens.new }
+fn stored_value(alloc: Global, tokens: &mut TokenCursor<'_>) -> Result<StoredValue, Stop>
+    ensures reads { Parses stored_value_form result tokens.old tokens.new }
     ensures shrinks { length tokens.new ≤ length tokens.old }
 {
-    let Some(colon) = tokens.eat(alloc, Test::Is(Terminal::Colon))? else {
-        let assign = tokens.expect(alloc, Test::Is(Terminal::Assign))?;
+    let Some(colon) = tokens.eat(alloc, TokenClass::Is(Terminal::Colon))? else {
+        let assign = tokens.expect(alloc, TokenClass::Is(Terminal::Assign))?;
         let value = expr(alloc, tokens)?;
         return Ok(StoredValue::Inferred(assign, value));
     };
@@ -171,12 +174,16 @@ fn stored_value(alloc: Global, tokens: &mut Tokens<'_>) -> Result<StoredValue, S
 }
 
 /// A stored property behind `let`.
-fn constant_behind(alloc: Global, tokens: &mut Tokens<'_>, keyword: Leaf) -> Result<Stored, Stop>
+fn constant_behind(
+    alloc: Global,
+    tokens: &mut TokenCursor<'_>,
+    keyword: Leaf,
+) -> Result<Stored, Stop>
     requires keyword { on (is T.Let) keyword ≡ true }
-    ensures reads { Reads stored_form result (keyword ∷ tokens.old) tokens.new }
+    ensures reads { Parses stored_form result (keyword ∷ tokens.old) tokens.new }
     ensures shrinks { length tokens.new ≤ length tokens.old }
 {
-    let name = tokens.expect(alloc, Test::Is(Terminal::Identifier))?;
+    let name = tokens.expect(alloc, TokenClass::Is(Terminal::Identifier))?;
     let value = stored_value(alloc, tokens)?;
     Ok(Stored {
         specifier: BindingSpecifier::Let(keyword),
@@ -188,18 +195,18 @@ fn constant_behind(alloc: Global, tokens: &mut Tokens<'_>, keyword: Leaf) -> Res
 /// A stored or computed property behind `var`.
 fn property_behind(
     alloc: Global,
-    tokens: &mut Tokens<'_>,
+    tokens: &mut TokenCursor<'_>,
     keyword: Leaf,
 ) -> Result<StructMember, Stop>
     requires keyword { on (is T.Var) keyword ≡ true }
-    ensures reads { Reads struct_member_form result (keyword ∷ tokens.old) tokens.new }
+    ensures reads { Parses struct_member_form result (keyword ∷ tokens.old) tokens.new }
     ensures shrinks { length tokens.new ≤ length tokens.old }
 {
-    let name = tokens.expect(alloc, Test::Is(Terminal::Identifier))?;
-    if let Some(colon) = tokens.eat(alloc, Test::Is(Terminal::Colon))? {
+    let name = tokens.expect(alloc, TokenClass::Is(Terminal::Identifier))?;
+    if let Some(colon) = tokens.eat(alloc, TokenClass::Is(Terminal::Colon))? {
         return typed_property_behind(alloc, tokens, keyword, name, colon);
     }
-    let assign = tokens.expect(alloc, Test::Is(Terminal::Assign))?;
+    let assign = tokens.expect(alloc, TokenClass::Is(Terminal::Assign))?;
     let value = expr(alloc, tokens)?;
     Ok(StructMember::Stored(Stored {
         specifier: BindingSpecifier::Var(keyword),
@@ -211,7 +218,7 @@ fn property_behind(
 /// A stored or computed property behind `var`, its name and a colon.
 fn typed_property_behind(
     alloc: Global,
-    tokens: &mut Tokens<'_>,
+    tokens: &mut TokenCursor<'_>,
     keyword: Leaf,
     name: Leaf,
     colon: Leaf,
@@ -219,11 +226,11 @@ fn typed_property_behind(
     requires keyword { on (is T.Var) keyword ≡ true }
     requires name { on (is T.Identifier) name ≡ true }
     requires colon { on (is T.Colon) colon ≡ true }
-    ensures reads { Reads struct_member_form result (keyword ∷ (name ∷ (colon ∷ tokens.old))) tokens.new }
+    ensures reads { Parses struct_member_form result (keyword ∷ (name ∷ (colon ∷ tokens.old))) tokens.new }
     ensures shrinks { length tokens.new ≤ length tokens.old }
 {
     let type_name = type_name(alloc, tokens)?;
-    if tokens.sees(Test::Is(Terminal::LeftBrace)) {
+    if tokens.sees(TokenClass::Is(Terminal::LeftBrace)) {
         let body = block(alloc, tokens)?;
         return Ok(StructMember::Computed(Computed {
             keyword,
@@ -241,27 +248,27 @@ fn typed_property_behind(
     }))
 }
 
-fn struct_member(alloc: Global, tokens: &mut Tokens<'_>) -> Result<StructMember, Stop>
-    ensures reads { Reads struct_member_form result tokens.old tokens.new }
+fn struct_member(alloc: Global, tokens: &mut TokenCursor<'_>) -> Result<StructMember, Stop>
+    ensures reads { Parses struct_member_form result tokens.old tokens.new }
     ensures shrinks { length tokens.new ≤ length tokens.old }
 {
-    if let Some(keyword) = tokens.eat(alloc, Test::Is(Terminal::Func))? {
+    if let Some(keyword) = tokens.eat(alloc, TokenClass::Is(Terminal::Func))? {
         let found = func_behind(alloc, tokens, keyword)?;
         return Ok(StructMember::Func(found));
     }
-    if let Some(keyword) = tokens.eat(alloc, Test::Is(Terminal::Let))? {
+    if let Some(keyword) = tokens.eat(alloc, TokenClass::Is(Terminal::Let))? {
         let found = constant_behind(alloc, tokens, keyword)?;
         return Ok(StructMember::Stored(found));
     }
-    let keyword = tokens.expect(alloc, Test::Is(Terminal::Var))?;
+    let keyword = tokens.expect(alloc, TokenClass::Is(Terminal::Var))?;
     property_behind(alloc, tokens, keyword)
 }
 
 fn struct_member_with_access(
     alloc: Global,
-    tokens: &mut Tokens<'_>,
+    tokens: &mut TokenCursor<'_>,
 ) -> Result<(Option<Access>, StructMember), Stop>
-    ensures reads { Reads (with_access struct_member_form) result tokens.old tokens.new }
+    ensures reads { Parses (with_access struct_member_form) result tokens.old tokens.new }
     ensures shrinks { length tokens.new ≤ length tokens.old }
 {
     let access = access(alloc, tokens)?;
@@ -271,33 +278,33 @@ fn struct_member_with_access(
 
 fn struct_members(
     alloc: Global,
-    tokens: &mut Tokens<'_>,
+    tokens: &mut TokenCursor<'_>,
 ) -> Result<Items<(Option<Access>, StructMember)>, Stop>
-    ensures reads { Reads (lines (on begins_struct_member) (on (on_new_line begins_struct_member)) (with_access struct_member_form)) result tokens.old tokens.new }
+    ensures reads { Parses (lines (on begins_struct_member) (on (on_new_line begins_struct_member)) (with_access struct_member_form)) result tokens.old tokens.new }
     ensures shrinks { length tokens.new ≤ length tokens.old }
 {
     let mut all = Items::new(alloc);
-    if !tokens.sees(Test::BeginsStructMember) {
+    if !tokens.sees(TokenClass::BeginsStructMember) {
         return Ok(all);
     }
     let first = struct_member_with_access(alloc, tokens)?;
     all.push(first)?;
-    while tokens.sees(Test::BeginsNextStructMember) {
+    while tokens.sees(TokenClass::BeginsNextStructMember) {
         let later = struct_member_with_access(alloc, tokens)?;
         all.push(later)?;
     }
     Ok(all)
 }
 
-fn struct_behind(alloc: Global, tokens: &mut Tokens<'_>, keyword: Leaf) -> Result<Struct, Stop>
+fn struct_behind(alloc: Global, tokens: &mut TokenCursor<'_>, keyword: Leaf) -> Result<Struct, Stop>
     requires keyword { on (is T.Struct) keyword ≡ true }
-    ensures reads { Reads struct_form result (keyword ∷ tokens.old) tokens.new }
+    ensures reads { Parses struct_form result (keyword ∷ tokens.old) tokens.new }
     ensures shrinks { length tokens.new ≤ length tokens.old }
 {
-    let name = tokens.expect(alloc, Test::Is(Terminal::Identifier))?;
-    let opening = tokens.expect(alloc, Test::Is(Terminal::LeftBrace))?;
+    let name = tokens.expect(alloc, TokenClass::Is(Terminal::Identifier))?;
+    let opening = tokens.expect(alloc, TokenClass::Is(Terminal::LeftBrace))?;
     let members = struct_members(alloc, tokens)?;
-    let closing = tokens.expect(alloc, Test::Is(Terminal::RightBrace))?;
+    let closing = tokens.expect(alloc, TokenClass::Is(Terminal::RightBrace))?;
     Ok(Struct {
         keyword,
         name,
@@ -307,13 +314,17 @@ fn struct_behind(alloc: Global, tokens: &mut Tokens<'_>, keyword: Leaf) -> Resul
     })
 }
 
-fn computed_behind(alloc: Global, tokens: &mut Tokens<'_>, keyword: Leaf) -> Result<Computed, Stop>
+fn computed_behind(
+    alloc: Global,
+    tokens: &mut TokenCursor<'_>,
+    keyword: Leaf,
+) -> Result<Computed, Stop>
     requires keyword { on (is T.Var) keyword ≡ true }
-    ensures reads { Reads computed_form result (keyword ∷ tokens.old) tokens.new }
+    ensures reads { Parses computed_form result (keyword ∷ tokens.old) tokens.new }
     ensures shrinks { length tokens.new ≤ length tokens.old }
 {
-    let name = tokens.expect(alloc, Test::Is(Terminal::Identifier))?;
-    let colon = tokens.expect(alloc, Test::Is(Terminal::Colon))?;
+    let name = tokens.expect(alloc, TokenClass::Is(Terminal::Identifier))?;
+    let colon = tokens.expect(alloc, TokenClass::Is(Terminal::Colon))?;
     let type_name = type_name(alloc, tokens)?;
     let body = block(alloc, tokens)?;
     Ok(Computed {
@@ -325,24 +336,24 @@ fn computed_behind(alloc: Global, tokens: &mut Tokens<'_>, keyword: Leaf) -> Res
     })
 }
 
-fn extension_member(alloc: Global, tokens: &mut Tokens<'_>) -> Result<ExtensionMember, Stop>
-    ensures reads { Reads extension_member_form result tokens.old tokens.new }
+fn extension_member(alloc: Global, tokens: &mut TokenCursor<'_>) -> Result<ExtensionMember, Stop>
+    ensures reads { Parses extension_member_form result tokens.old tokens.new }
     ensures shrinks { length tokens.new ≤ length tokens.old }
 {
-    if let Some(keyword) = tokens.eat(alloc, Test::Is(Terminal::Func))? {
+    if let Some(keyword) = tokens.eat(alloc, TokenClass::Is(Terminal::Func))? {
         let found = func_behind(alloc, tokens, keyword)?;
         return Ok(ExtensionMember::Func(found));
     }
-    let keyword = tokens.expect(alloc, Test::Is(Terminal::Var))?;
+    let keyword = tokens.expect(alloc, TokenClass::Is(Terminal::Var))?;
     let found = computed_behind(alloc, tokens, keyword)?;
     Ok(ExtensionMember::Computed(found))
 }
 
 fn extension_member_with_access(
     alloc: Global,
-    tokens: &mut Tokens<'_>,
+    tokens: &mut TokenCursor<'_>,
 ) -> Result<(Option<Access>, ExtensionMember), Stop>
-    ensures reads { Reads (with_access extension_member_form) result tokens.old tokens.new }
+    ensures reads { Parses (with_access extension_member_form) result tokens.old tokens.new }
     ensures shrinks { length tokens.new ≤ length tokens.old }
 {
     let access = access(alloc, tokens)?;
@@ -352,18 +363,18 @@ fn extension_member_with_access(
 
 fn extension_members(
     alloc: Global,
-    tokens: &mut Tokens<'_>,
+    tokens: &mut TokenCursor<'_>,
 ) -> Result<Items<(Option<Access>, ExtensionMember)>, Stop>
-    ensures reads { Reads (lines (on begins_extension_member) (on (on_new_line begins_extension_member)) (with_access extension_member_form)) result tokens.old tokens.new }
+    ensures reads { Parses (lines (on begins_extension_member) (on (on_new_line begins_extension_member)) (with_access extension_member_form)) result tokens.old tokens.new }
     ensures shrinks { length tokens.new ≤ length tokens.old }
 {
     let mut all = Items::new(alloc);
-    if !tokens.sees(Test::BeginsExtensionMember) {
+    if !tokens.sees(TokenClass::BeginsExtensionMember) {
         return Ok(all);
     }
     let first = extension_member_with_access(alloc, tokens)?;
     all.push(first)?;
-    while tokens.sees(Test::BeginsNextExtensionMember) {
+    while tokens.sees(TokenClass::BeginsNextExtensionMember) {
         let later = extension_member_with_access(alloc, tokens)?;
         all.push(later)?;
     }
@@ -372,17 +383,17 @@ fn extension_members(
 
 fn extension_behind(
     alloc: Global,
-    tokens: &mut Tokens<'_>,
+    tokens: &mut TokenCursor<'_>,
     keyword: Leaf,
 ) -> Result<Extension, Stop>
     requires keyword { on (is T.Extension) keyword ≡ true }
-    ensures reads { Reads extension_form result (keyword ∷ tokens.old) tokens.new }
+    ensures reads { Parses extension_form result (keyword ∷ tokens.old) tokens.new }
     ensures shrinks { length tokens.new ≤ length tokens.old }
 {
-    let name = tokens.expect(alloc, Test::Is(Terminal::Identifier))?;
-    let opening = tokens.expect(alloc, Test::Is(Terminal::LeftBrace))?;
+    let name = tokens.expect(alloc, TokenClass::Is(Terminal::Identifier))?;
+    let opening = tokens.expect(alloc, TokenClass::Is(Terminal::LeftBrace))?;
     let members = extension_members(alloc, tokens)?;
-    let closing = tokens.expect(alloc, Test::Is(Terminal::RightBrace))?;
+    let closing = tokens.expect(alloc, TokenClass::Is(Terminal::RightBrace))?;
     Ok(Extension {
         keyword,
         name,
@@ -392,13 +403,13 @@ fn extension_behind(
     })
 }
 
-fn alias_behind(alloc: Global, tokens: &mut Tokens<'_>, keyword: Leaf) -> Result<Alias, Stop>
+fn alias_behind(alloc: Global, tokens: &mut TokenCursor<'_>, keyword: Leaf) -> Result<Alias, Stop>
     requires keyword { on (is T.Typealias) keyword ≡ true }
-    ensures reads { Reads alias_form result (keyword ∷ tokens.old) tokens.new }
+    ensures reads { Parses alias_form result (keyword ∷ tokens.old) tokens.new }
     ensures shrinks { length tokens.new ≤ length tokens.old }
 {
-    let name = tokens.expect(alloc, Test::Is(Terminal::Identifier))?;
-    let assign = tokens.expect(alloc, Test::Is(Terminal::Assign))?;
+    let name = tokens.expect(alloc, TokenClass::Is(Terminal::Identifier))?;
+    let assign = tokens.expect(alloc, TokenClass::Is(Terminal::Assign))?;
     let type_name = type_name(alloc, tokens)?;
     Ok(Alias {
         keyword,
@@ -408,32 +419,32 @@ fn alias_behind(alloc: Global, tokens: &mut Tokens<'_>, keyword: Leaf) -> Result
     })
 }
 
-fn named_decl(alloc: Global, tokens: &mut Tokens<'_>) -> Result<NamedDecl, Stop>
-    ensures reads { Reads named_form result tokens.old tokens.new }
+fn named_decl(alloc: Global, tokens: &mut TokenCursor<'_>) -> Result<NamedDecl, Stop>
+    ensures reads { Parses named_form result tokens.old tokens.new }
     ensures shrinks { length tokens.new ≤ length tokens.old }
 {
     if let Some(found) = specifier(alloc, tokens)? {
         let global = binding_behind(alloc, tokens, found)?;
         return Ok(NamedDecl::Global(global));
     }
-    if let Some(keyword) = tokens.eat(alloc, Test::Is(Terminal::Func))? {
+    if let Some(keyword) = tokens.eat(alloc, TokenClass::Is(Terminal::Func))? {
         let found = func_behind(alloc, tokens, keyword)?;
         return Ok(NamedDecl::Func(found));
     }
-    if let Some(keyword) = tokens.eat(alloc, Test::Is(Terminal::Struct))? {
+    if let Some(keyword) = tokens.eat(alloc, TokenClass::Is(Terminal::Struct))? {
         let found = struct_behind(alloc, tokens, keyword)?;
         return Ok(NamedDecl::Struct(found));
     }
-    let keyword = tokens.expect(alloc, Test::Is(Terminal::Typealias))?;
+    let keyword = tokens.expect(alloc, TokenClass::Is(Terminal::Typealias))?;
     let found = alias_behind(alloc, tokens, keyword)?;
     Ok(NamedDecl::Alias(found))
 }
 
-fn decl(alloc: Global, tokens: &mut Tokens<'_>) -> Result<Decl, Stop>
-    ensures reads { Reads decl_form result tokens.old tokens.new }
+fn decl(alloc: Global, tokens: &mut TokenCursor<'_>) -> Result<Decl, Stop>
+    ensures reads { Parses decl_form result tokens.old tokens.new }
     ensures shrinks { length tokens.new ≤ length tokens.old }
 {
-    if let Some(keyword) = tokens.eat(alloc, Test::Is(Terminal::Extension))? {
+    if let Some(keyword) = tokens.eat(alloc, TokenClass::Is(Terminal::Extension))? {
         let found = extension_behind(alloc, tokens, keyword)?;
         return Ok(Decl::Extension(found));
     }
@@ -443,12 +454,12 @@ fn decl(alloc: Global, tokens: &mut Tokens<'_>) -> Result<Decl, Stop>
 }
 
 /// The declarations of a file.
-pub fn decls(alloc: Global, tokens: &mut Tokens<'_>) -> Result<Items<Decl>, Stop>
-    ensures reads { Reads decls_form result tokens.old tokens.new }
+pub fn decls(alloc: Global, tokens: &mut TokenCursor<'_>) -> Result<Items<Decl>, Stop>
+    ensures reads { Parses decls_form result tokens.old tokens.new }
     ensures shrinks { length tokens.new ≤ length tokens.old }
 {
     let mut all = Items::new(alloc);
-    while tokens.sees(Test::BeginsNextDecl) {
+    while tokens.sees(TokenClass::BeginsNextDecl) {
         let next = decl(alloc, tokens)?;
         all.push(next)?;
     }

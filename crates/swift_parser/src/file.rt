@@ -1,16 +1,16 @@
 ghost use Rattle.std.specs.Prelude.{◌≡◌, ◌≤◌, length, map, Some, None};
 ghost use Rattle.swift_ast.specs.Leaves.{leaf_of};
 ghost use Rattle.swift_ast.specs.Tests.{one_of, level_openings, level_closings};
-ghost use Rattle.swift_token.specs.Placing.{IsPlaceBehind};
-ghost use Rattle.swift_parser.specs.Whole.{DeepAt, IsReadable, IsUnexpectedHere, IsTooDeepHere, AreAll, DeclsGive, TellsTokens, Parses};
+ghost use Rattle.swift_token.specs.Positions.{IsPositionBehind};
+ghost use Rattle.swift_parser.specs.Whole.{DeepAt, IsReadable, IsUnexpectedHere, IsTooDeepHere, AreAll, DeclsGive, TellsTokens, ParsesFile};
 
 use crate::ParseFault;
 use crate::declarations::decls;
 use sqlite_items::Items;
 use std::alloc::Global;
 use swift_ast::{Decl, FileTree, Terminal, Text, Token};
-use swift_token::{LexEnd, Place, tokens};
-use token_cursor::{Stop, Tokens, terminal};
+use swift_token::{LexEnd, Position, tokens};
+use token_cursor::{Stop, TokenCursor, terminal};
 
 /// The most bytes that a source file may have.
 const MAX_FILE_BYTES: usize = 262_144;
@@ -50,15 +50,15 @@ fn too_deep_at(tokens: &[Token<'_>]) -> Option<usize>
 }
 
 /// The place behind the last byte of a file.
-fn end_of(bytes: &[u8]) -> Place
+fn end_of(bytes: &[u8]) -> Position
     requires { length bytes.now ≤ 262144 }
-    ensures { IsPlaceBehind result bytes.now }
+    ensures { IsPositionBehind result bytes.now }
 {
-    let start = Place { line: 1, column: 1 };
+    let start = Position { line: 1, column: 1 };
     start.behind(bytes)
 }
 
-/// The fault where a file's tokens can't go on with the rest of them.
+/// The fault where a file's tokens can't continue with the rest of them.
 fn unexpected(alloc: Global, bytes: &[u8], rest: &[Token<'_>]) -> ParseFault
     requires { length bytes.now ≤ 262144 }
     ensures { IsUnexpectedHere bytes.now (map leaf_of rest.now) result }
@@ -116,7 +116,7 @@ enum Ended<'a> {
 fn all_decls<'a>(alloc: Global, tokens: &'a [Token<'a>]) -> Result<Items<Decl>, Ended<'a>>
     ensures { AreAll result (map leaf_of tokens.now) }
 {
-    let mut left = Tokens::new(tokens);
+    let mut left = TokenCursor::new(tokens);
     match decls(alloc, &mut left) {
         Ok(all) => {
             let rest = left.rest();
@@ -126,7 +126,7 @@ fn all_decls<'a>(alloc: Global, tokens: &'a [Token<'a>]) -> Result<Items<Decl>, 
                 Err(Ended::At(rest))
             }
         }
-        Err(Stop::Refused) => Err(Ended::At(left.rest())),
+        Err(Stop::Unexpected) => Err(Ended::At(left.rest())),
         Err(Stop::NoMemory) => Err(Ended::NoMemory),
     }
 }
@@ -195,7 +195,7 @@ fn file_tree(
 ) -> Result<FileTree, ParseFault>
     requires readable { IsReadable bytes.now }
     requires tokens { TellsTokens bytes.now (map leaf_of tokens.now) }
-    ensures { Parses path.now bytes.now result }
+    ensures { ParsesFile path.now bytes.now result }
 {
     let decls = file_decls(alloc, bytes, tokens)?;
     match Text::from_str(alloc, path) {
@@ -212,7 +212,7 @@ fn file_tree(
 /// first token that is `Unexpected` or the first bracket that is `TooDeep`, whichever comes first,
 /// `Unexpected` at the same token.
 pub fn parse_file(alloc: Global, path: &str, bytes: &[u8]) -> Result<FileTree, ParseFault>
-    ensures parses { Parses path.now bytes.now result }
+    ensures parses { ParsesFile path.now bytes.now result }
 {
     if bytes.len() > MAX_FILE_BYTES {
         return Err(ParseFault::TooLarge);

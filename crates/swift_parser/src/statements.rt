@@ -5,8 +5,8 @@ ghost use Rattle.swift_ast.specs.declared.terminals.Terminal.TheVariants as T;
 ghost use Rattle.swift_ast.specs.Tests.{on, is, is_specifier, begins_stmt, begins_next_stmt};
 ghost use Rattle.swift_ast.specs.Statements.{specifier_form, type_form, annotation_rule, stmt_form, block_form, else_if_form, if_form, target_form, else_parts_rule};
 ghost use Rattle.swift_ast.specs.Declarations.{global_form};
-ghost use Rattle.swift_parser.specs.Nests.{NestsBlock};
-ghost use Rattle.token_cursor.specs.Reading.{Reads, TakesIf, Shortens, begins_assign};
+ghost use Rattle.swift_parser.specs.CanRead.{CanReadBlock};
+ghost use Rattle.token_cursor.specs.Reading.{Parses, TakesIf, Shortens, begins_assign};
 
 use crate::expressions::{expr, postfix};
 use sqlite_items::Items;
@@ -15,39 +15,39 @@ use swift_ast::{
     BindingSpecifier, Block, Call, ElseIf, Global as GlobalDecl, If, Leaf, Postfix, PostfixPart,
     Stmt, Target, Terminal, TypeName,
 };
-use token_cursor::{Stop, Test, Tokens};
+use token_cursor::{Stop, TokenClass, TokenCursor};
 
 /// `let` or `var`, if one stands next.
 pub fn specifier(
     alloc: Global,
-    tokens: &mut Tokens<'_>,
+    tokens: &mut TokenCursor<'_>,
 ) -> Result<Option<BindingSpecifier>, AllocError>
     ensures takes { IfOk result (λ found. TakesIf (on is_specifier) specifier_form found tokens.old tokens.new) }
     ensures shrinks { length tokens.new ≤ length tokens.old }
     ensures shortens { IfOk result (λ found. Shortens found tokens.old tokens.new) }
 {
-    if let Some(t) = tokens.eat(alloc, Test::Is(Terminal::Let))? {
+    if let Some(t) = tokens.eat(alloc, TokenClass::Is(Terminal::Let))? {
         return Ok(Some(BindingSpecifier::Let(t)));
     }
-    if let Some(t) = tokens.eat(alloc, Test::Is(Terminal::Var))? {
+    if let Some(t) = tokens.eat(alloc, TokenClass::Is(Terminal::Var))? {
         return Ok(Some(BindingSpecifier::Var(t)));
     }
     Ok(None)
 }
 
-pub fn type_name(alloc: Global, tokens: &mut Tokens<'_>) -> Result<TypeName, Stop>
-    ensures reads { Reads type_form result tokens.old tokens.new }
+pub fn type_name(alloc: Global, tokens: &mut TokenCursor<'_>) -> Result<TypeName, Stop>
+    ensures reads { Parses type_form result tokens.old tokens.new }
     ensures shrinks { length tokens.new ≤ length tokens.old }
 {
-    let name = tokens.expect(alloc, Test::Is(Terminal::Identifier))?;
+    let name = tokens.expect(alloc, TokenClass::Is(Terminal::Identifier))?;
     Ok(TypeName { name })
 }
 
-fn annotation(alloc: Global, tokens: &mut Tokens<'_>) -> Result<Option<(Leaf, TypeName)>, Stop>
-    ensures reads { Reads annotation_rule result tokens.old tokens.new }
+fn annotation(alloc: Global, tokens: &mut TokenCursor<'_>) -> Result<Option<(Leaf, TypeName)>, Stop>
+    ensures reads { Parses annotation_rule result tokens.old tokens.new }
     ensures shrinks { length tokens.new ≤ length tokens.old }
 {
-    let Some(colon) = tokens.eat(alloc, Test::Is(Terminal::Colon))? else {
+    let Some(colon) = tokens.eat(alloc, TokenClass::Is(Terminal::Colon))? else {
         return Ok(None);
     };
     let written = type_name(alloc, tokens)?;
@@ -57,16 +57,16 @@ fn annotation(alloc: Global, tokens: &mut Tokens<'_>) -> Result<Option<(Leaf, Ty
 /// A name with an initial value behind `let` or `var`.
 pub fn binding_behind(
     alloc: Global,
-    tokens: &mut Tokens<'_>,
+    tokens: &mut TokenCursor<'_>,
     specifier: BindingSpecifier,
 ) -> Result<GlobalDecl, Stop>
-    requires { specifier_form.is_right specifier ≡ true }
-    ensures reads { Reads global_form result (specifier_form.tokens specifier ++ tokens.old) tokens.new }
+    requires { specifier_form.is_well_formed specifier ≡ true }
+    ensures reads { Parses global_form result (specifier_form.tokens specifier ++ tokens.old) tokens.new }
     ensures shrinks { length tokens.new ≤ length tokens.old }
 {
-    let name = tokens.expect(alloc, Test::Is(Terminal::Identifier))?;
+    let name = tokens.expect(alloc, TokenClass::Is(Terminal::Identifier))?;
     let annotation = annotation(alloc, tokens)?;
-    let assign = tokens.expect(alloc, Test::Is(Terminal::Assign))?;
+    let assign = tokens.expect(alloc, TokenClass::Is(Terminal::Assign))?;
     let value = expr(alloc, tokens)?;
     Ok(GlobalDecl {
         specifier,
@@ -79,11 +79,11 @@ pub fn binding_behind(
 
 fn local_behind(
     alloc: Global,
-    tokens: &mut Tokens<'_>,
+    tokens: &mut TokenCursor<'_>,
     specifier: BindingSpecifier,
 ) -> Result<Stmt, Stop>
-    requires { specifier_form.is_right specifier ≡ true }
-    ensures reads { Reads stmt_form result (specifier_form.tokens specifier ++ tokens.old) tokens.new }
+    requires { specifier_form.is_well_formed specifier ≡ true }
+    ensures reads { Parses stmt_form result (specifier_form.tokens specifier ++ tokens.old) tokens.new }
     ensures shrinks { length tokens.new ≤ length tokens.old }
 {
     let found = binding_behind(alloc, tokens, specifier)?;
@@ -96,39 +96,39 @@ fn local_behind(
     ))
 }
 
-fn return_behind(alloc: Global, tokens: &mut Tokens<'_>, keyword: Leaf) -> Result<Stmt, Stop>
+fn return_behind(alloc: Global, tokens: &mut TokenCursor<'_>, keyword: Leaf) -> Result<Stmt, Stop>
     requires { on (is T.Return) keyword ≡ true }
-    ensures reads { Reads stmt_form result (keyword ∷ tokens.old) tokens.new }
+    ensures reads { Parses stmt_form result (keyword ∷ tokens.old) tokens.new }
     ensures shrinks { length tokens.new ≤ length tokens.old }
 {
-    if !tokens.sees(Test::BeginsValue) {
+    if !tokens.sees(TokenClass::BeginsValue) {
         return Ok(Stmt::Return(keyword, None));
     }
     let value = expr(alloc, tokens)?;
     Ok(Stmt::Return(keyword, Some(value)))
 }
 
-fn target(alloc: Global, tokens: &mut Tokens<'_>) -> Result<Target, Stop>
-    ensures reads { Reads target_form result tokens.old tokens.new }
+fn target(alloc: Global, tokens: &mut TokenCursor<'_>) -> Result<Target, Stop>
+    ensures reads { Parses target_form result tokens.old tokens.new }
     ensures shrinks { length tokens.new ≤ length tokens.old }
 {
-    let root = tokens.expect(alloc, Test::Is(Terminal::Identifier))?;
+    let root = tokens.expect(alloc, TokenClass::Is(Terminal::Identifier))?;
     let mut members = Items::new(alloc);
-    while let Some(dot) = tokens.eat(alloc, Test::Is(Terminal::Dot))? {
-        let name = tokens.expect(alloc, Test::Is(Terminal::Identifier))?;
+    while let Some(dot) = tokens.eat(alloc, TokenClass::Is(Terminal::Dot))? {
+        let name = tokens.expect(alloc, TokenClass::Is(Terminal::Identifier))?;
         members.push((dot, name))?;
     }
     Ok(Target { root, members })
 }
 
 /// An assignment, where one stands next up to its `=`.
-fn assignment(alloc: Global, tokens: &mut Tokens<'_>) -> Result<Stmt, Stop>
+fn assignment(alloc: Global, tokens: &mut TokenCursor<'_>) -> Result<Stmt, Stop>
     requires { begins_assign tokens.old ≡ true }
-    ensures reads { Reads stmt_form result tokens.old tokens.new }
+    ensures reads { Parses stmt_form result tokens.old tokens.new }
     ensures shrinks { length tokens.new ≤ length tokens.old }
 {
     let target = target(alloc, tokens)?;
-    let assign = tokens.expect(alloc, Test::Is(Terminal::Assign))?;
+    let assign = tokens.expect(alloc, TokenClass::Is(Terminal::Assign))?;
     let value = expr(alloc, tokens)?;
     Ok(Stmt::Assign(target, assign, value))
 }
@@ -152,18 +152,18 @@ fn is_call(postfix: &Postfix) -> bool
 }
 
 /// A call, where no other statement stands next.
-fn call(alloc: Global, tokens: &mut Tokens<'_>) -> Result<Stmt, Stop>
+fn call(alloc: Global, tokens: &mut TokenCursor<'_>) -> Result<Stmt, Stop>
     requires no_local { Stops (on is_specifier) tokens.old }
     requires no_return { Stops (on (is T.Return)) tokens.old }
     requires no_if { Stops (on (is T.If)) tokens.old }
     requires no_while { Stops (on (is T.While)) tokens.old }
     requires no_assign { begins_assign tokens.old ≡ false }
-    ensures reads { Reads stmt_form result tokens.old tokens.new }
+    ensures reads { Parses stmt_form result tokens.old tokens.new }
     ensures shrinks { length tokens.new ≤ length tokens.old }
 {
     let found = postfix(alloc, tokens)?;
     if !is_call(&found) {
-        return Err(Stop::Refused);
+        return Err(Stop::Unexpected);
     }
     Ok(Stmt::Call(Call { postfix: found }))
 }
@@ -179,34 +179,34 @@ struct Grammar<F> {
     block: F,
 }
 
-impl<F: Fn(Global, &mut Tokens<'_>, usize) -> Result<Block, Stop>> Grammar<F> {
+impl<F: Fn(Global, &mut TokenCursor<'_>, usize) -> Result<Block, Stop>> Grammar<F> {
     /// The block of a statement.
-    fn inner(&self, tokens: &mut Tokens<'_>) -> Result<Block, Stop>
-        requires nests { NestsBlock self.now.limit (F.pre self.now.block) (F.post self.now.block) }
+    fn inner(&self, tokens: &mut TokenCursor<'_>) -> Result<Block, Stop>
+        requires nests { CanReadBlock self.now.limit (F.pre self.now.block) (F.post self.now.block) }
         requires few { length tokens.old < self.now.limit }
-        ensures reads { Reads block_form result tokens.old tokens.new }
+        ensures reads { Parses block_form result tokens.old tokens.new }
         ensures shrinks { length tokens.new ≤ length tokens.old }
     {
         (self.block)(self.alloc, tokens, self.limit - 1)
     }
 
-    fn stmt(&self, tokens: &mut Tokens<'_>) -> Result<Stmt, Stop>
-        requires nests { NestsBlock self.now.limit (F.pre self.now.block) (F.post self.now.block) }
+    fn stmt(&self, tokens: &mut TokenCursor<'_>) -> Result<Stmt, Stop>
+        requires nests { CanReadBlock self.now.limit (F.pre self.now.block) (F.post self.now.block) }
         requires few { length tokens.old < self.now.limit }
-        ensures reads { Reads stmt_form result tokens.old tokens.new }
+        ensures reads { Parses stmt_form result tokens.old tokens.new }
         ensures shrinks { length tokens.new ≤ length tokens.old }
     {
         if let Some(found) = specifier(self.alloc, tokens)? {
             return local_behind(self.alloc, tokens, found);
         }
-        if let Some(return_keyword) = tokens.eat(self.alloc, Test::Is(Terminal::Return))? {
+        if let Some(return_keyword) = tokens.eat(self.alloc, TokenClass::Is(Terminal::Return))? {
             return return_behind(self.alloc, tokens, return_keyword);
         }
-        if let Some(if_keyword) = tokens.eat(self.alloc, Test::Is(Terminal::If))? {
+        if let Some(if_keyword) = tokens.eat(self.alloc, TokenClass::Is(Terminal::If))? {
             let conditional = self.if_behind(tokens, if_keyword)?;
             return Ok(Stmt::If(conditional));
         }
-        if let Some(while_keyword) = tokens.eat(self.alloc, Test::Is(Terminal::While))? {
+        if let Some(while_keyword) = tokens.eat(self.alloc, TokenClass::Is(Terminal::While))? {
             return self.while_behind(tokens, while_keyword);
         }
         if tokens.sees_assign() {
@@ -215,11 +215,11 @@ impl<F: Fn(Global, &mut Tokens<'_>, usize) -> Result<Block, Stop>> Grammar<F> {
         call(self.alloc, tokens)
     }
 
-    fn while_behind(&self, tokens: &mut Tokens<'_>, keyword: Leaf) -> Result<Stmt, Stop>
-        requires nests { NestsBlock self.now.limit (F.pre self.now.block) (F.post self.now.block) }
+    fn while_behind(&self, tokens: &mut TokenCursor<'_>, keyword: Leaf) -> Result<Stmt, Stop>
+        requires nests { CanReadBlock self.now.limit (F.pre self.now.block) (F.post self.now.block) }
         requires few { length tokens.old < self.now.limit }
         requires keyword { on (is T.While) keyword ≡ true }
-        ensures reads { Reads stmt_form result (keyword ∷ tokens.old) tokens.new }
+        ensures reads { Parses stmt_form result (keyword ∷ tokens.old) tokens.new }
         ensures shrinks { length tokens.new ≤ length tokens.old }
     {
         let condition = expr(self.alloc, tokens)?;
@@ -227,11 +227,11 @@ impl<F: Fn(Global, &mut Tokens<'_>, usize) -> Result<Block, Stop>> Grammar<F> {
         Ok(Stmt::While(keyword, condition, body))
     }
 
-    fn if_behind(&self, tokens: &mut Tokens<'_>, keyword: Leaf) -> Result<If, Stop>
-        requires nests { NestsBlock self.now.limit (F.pre self.now.block) (F.post self.now.block) }
+    fn if_behind(&self, tokens: &mut TokenCursor<'_>, keyword: Leaf) -> Result<If, Stop>
+        requires nests { CanReadBlock self.now.limit (F.pre self.now.block) (F.post self.now.block) }
         requires few { length tokens.old < self.now.limit }
         requires keyword { on (is T.If) keyword ≡ true }
-        ensures reads { Reads if_form result (keyword ∷ tokens.old) tokens.new }
+        ensures reads { Parses if_form result (keyword ∷ tokens.old) tokens.new }
         ensures shrinks { length tokens.new ≤ length tokens.old }
     {
         let condition = expr(self.alloc, tokens)?;
@@ -248,16 +248,16 @@ impl<F: Fn(Global, &mut Tokens<'_>, usize) -> Result<Block, Stop>> Grammar<F> {
 
     fn else_parts(
         &self,
-        tokens: &mut Tokens<'_>,
+        tokens: &mut TokenCursor<'_>,
     ) -> Result<(Items<ElseIf>, Option<(Leaf, Block)>), Stop>
-        requires nests { NestsBlock self.now.limit (F.pre self.now.block) (F.post self.now.block) }
+        requires nests { CanReadBlock self.now.limit (F.pre self.now.block) (F.post self.now.block) }
         requires few { length tokens.old < self.now.limit }
-        ensures reads { Reads (else_parts_rule block_form else_if_form) result tokens.old tokens.new }
+        ensures reads { Parses (else_parts_rule block_form else_if_form) result tokens.old tokens.new }
         ensures shrinks { length tokens.new ≤ length tokens.old }
     {
         let mut else_ifs = Items::new(self.alloc);
-        while let Some(else_keyword) = tokens.eat(self.alloc, Test::Is(Terminal::Else))? {
-            let Some(if_keyword) = tokens.eat(self.alloc, Test::Is(Terminal::If))? else {
+        while let Some(else_keyword) = tokens.eat(self.alloc, TokenClass::Is(Terminal::Else))? {
+            let Some(if_keyword) = tokens.eat(self.alloc, TokenClass::Is(Terminal::If))? else {
                 let body = self.inner(tokens)?;
                 return Ok((else_ifs, Some((else_keyword, body))));
             };
@@ -269,15 +269,15 @@ impl<F: Fn(Global, &mut Tokens<'_>, usize) -> Result<Block, Stop>> Grammar<F> {
 
     fn else_if_behind(
         &self,
-        tokens: &mut Tokens<'_>,
+        tokens: &mut TokenCursor<'_>,
         else_keyword: Leaf,
         if_keyword: Leaf,
     ) -> Result<ElseIf, Stop>
-        requires nests { NestsBlock self.now.limit (F.pre self.now.block) (F.post self.now.block) }
+        requires nests { CanReadBlock self.now.limit (F.pre self.now.block) (F.post self.now.block) }
         requires few { length tokens.old < self.now.limit }
         requires else_keyword { on (is T.Else) else_keyword ≡ true }
         requires if_keyword { on (is T.If) if_keyword ≡ true }
-        ensures reads { Reads else_if_form result (else_keyword ∷ (if_keyword ∷ tokens.old)) tokens.new }
+        ensures reads { Parses else_if_form result (else_keyword ∷ (if_keyword ∷ tokens.old)) tokens.new }
         ensures shrinks { length tokens.new ≤ length tokens.old }
     {
         let condition = expr(self.alloc, tokens)?;
@@ -290,34 +290,34 @@ impl<F: Fn(Global, &mut Tokens<'_>, usize) -> Result<Block, Stop>> Grammar<F> {
         })
     }
 
-    fn stmts(&self, tokens: &mut Tokens<'_>) -> Result<Items<Stmt>, Stop>
-        requires nests { NestsBlock self.now.limit (F.pre self.now.block) (F.post self.now.block) }
+    fn stmts(&self, tokens: &mut TokenCursor<'_>) -> Result<Items<Stmt>, Stop>
+        requires nests { CanReadBlock self.now.limit (F.pre self.now.block) (F.post self.now.block) }
         requires few { length tokens.old < self.now.limit }
-        ensures reads { Reads (lines (on begins_stmt) (on begins_next_stmt) stmt_form) result tokens.old tokens.new }
+        ensures reads { Parses (lines (on begins_stmt) (on begins_next_stmt) stmt_form) result tokens.old tokens.new }
         ensures shrinks { length tokens.new ≤ length tokens.old }
     {
         let mut all = Items::new(self.alloc);
-        if !tokens.sees(Test::BeginsStmt) {
+        if !tokens.sees(TokenClass::BeginsStmt) {
             return Ok(all);
         }
         let first = self.stmt(tokens)?;
         all.push(first)?;
-        while tokens.sees(Test::BeginsNextStmt) {
+        while tokens.sees(TokenClass::BeginsNextStmt) {
             let later = self.stmt(tokens)?;
             all.push(later)?;
         }
         Ok(all)
     }
 
-    fn level(&self, tokens: &mut Tokens<'_>) -> Result<Block, Stop>
-        requires nests { NestsBlock self.now.limit (F.pre self.now.block) (F.post self.now.block) }
+    fn level(&self, tokens: &mut TokenCursor<'_>) -> Result<Block, Stop>
+        requires nests { CanReadBlock self.now.limit (F.pre self.now.block) (F.post self.now.block) }
         requires few { length tokens.old ≤ self.now.limit }
-        ensures reads { Reads block_form result tokens.old tokens.new }
+        ensures reads { Parses block_form result tokens.old tokens.new }
         ensures shrinks { length tokens.new ≤ length tokens.old }
     {
-        let opening = tokens.expect(self.alloc, Test::Is(Terminal::LeftBrace))?;
+        let opening = tokens.expect(self.alloc, TokenClass::Is(Terminal::LeftBrace))?;
         let stmts = self.stmts(tokens)?;
-        let closing = tokens.expect(self.alloc, Test::Is(Terminal::RightBrace))?;
+        let closing = tokens.expect(self.alloc, TokenClass::Is(Terminal::RightBrace))?;
         Ok(Block {
             opening,
             stmts,
@@ -327,9 +327,9 @@ impl<F: Fn(Global, &mut Tokens<'_>, usize) -> Result<Block, Stop>> Grammar<F> {
 }
 
 /// A block, where no more tokens are left than the limit.
-fn limited(alloc: Global, tokens: &mut Tokens<'_>, limit: usize) -> Result<Block, Stop>
+fn limited(alloc: Global, tokens: &mut TokenCursor<'_>, limit: usize) -> Result<Block, Stop>
     requires { length tokens.old ≤ limit }
-    ensures reads { Reads block_form result tokens.old tokens.new }
+    ensures reads { Parses block_form result tokens.old tokens.new }
     ensures shrinks { length tokens.new ≤ length tokens.old }
 {
     Grammar {
@@ -341,8 +341,8 @@ fn limited(alloc: Global, tokens: &mut Tokens<'_>, limit: usize) -> Result<Block
 }
 
 /// A block.
-pub fn block(alloc: Global, tokens: &mut Tokens<'_>) -> Result<Block, Stop>
-    ensures reads { Reads block_form result tokens.old tokens.new }
+pub fn block(alloc: Global, tokens: &mut TokenCursor<'_>) -> Result<Block, Stop>
+    ensures reads { Parses block_form result tokens.old tokens.new }
     ensures shrinks { length tokens.new ≤ length tokens.old }
 {
     let limit = tokens.len();

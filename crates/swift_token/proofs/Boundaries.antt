@@ -8,11 +8,11 @@ use Rattle.std.proofs.lemmas.Str.{IsUtf8-drop, IsCharBoundary-after_ascii, IsCha
 use Rattle.swift_ast.specs.declared.TokenKind.{TokenKind}
 use Rattle.swift_ast.specs.declared.TokenKind.TheVariants.{Identifier, Keyword, Integer, StringText, Mark}
 use Rattle.swift_token.specs.Texts.{is_blank, is_escape, breaks_string, is_word_byte, is_word, is_keyword, is_number, ends_string, is_token_text, marks}
-use Rattle.swift_token.specs.Gaps.{is_piece, ends_line, closes_comment}
+use Rattle.swift_token.specs.Trivia.{is_trivia_piece, ends_line, closes_comment}
 use Rattle.swift_token.proofs.Fronts.{among_passes}
 use Rattle.swift_token.proofs.Words.{keyword_is_word, word_bytes, number_bytes, word_byte_bounds, token_some}
 use Rattle.swift_token.proofs.Scanned.{nothing_left}
-use Rattle.swift_token.proofs.GapLemmas.{IsPieceOf}
+use Rattle.swift_token.proofs.TriviaLemmas.{IsPieceOf}
 
 -- The last byte is ASCII.
 abbrev pub EndsAscii : List ℕ → Type 0
@@ -57,7 +57,7 @@ blank_ascii c h =
     (λ (e : eqb c 10 ≡ true). omega (arith, eqb-true c 10 e))
     (or_cases (eqb c 32 || eqb c 9 || eqb c 13) (eqb c 10) h)
 
-piece_ascii : (p : List ℕ) → is_piece p ≡ true → EndsAscii p
+piece_ascii : (p : List ℕ) → is_trivia_piece p ≡ true → EndsAscii p
 piece_ascii [] h = absurd (false≢true h)
 piece_ascii (c ∷ []) h = one_ascii c [] (blank_ascii c h) refl
 piece_ascii (c ∷ d ∷ cs) h =
@@ -109,5 +109,5 @@ cut_at n bs within u e =
     let at : IsCharBoundary (take n bs ++ drop n bs) (length (take n bs)) = cut_behind (take n bs) (drop n bs) (subst (λ (x : List ℕ). IsUtf8 x) (sym whole) u) e in
     subst (λ (k : ℕ). IsCharBoundary bs k) (length-take-le n bs within) (subst (λ (x : List ℕ). IsCharBoundary x (length (take n bs))) whole at)
 
-pub gap_boundary : (bs : List ℕ) (len n : ℕ) → len ≤ length bs → IsPieceOf n (drop len bs) → IsUtf8 bs → IsCharBoundary bs len → IsCharBoundary bs (len + n)
-gap_boundary bs len n within p u b = IsCharBoundary-from_rest bs len n within (cut_at n (drop len bs) p.within (IsUtf8-drop bs len u b) (piece_ascii (take n (drop len bs)) p.piece))
+pub trivia_boundary : (bs : List ℕ) (len n : ℕ) → len ≤ length bs → IsPieceOf n (drop len bs) → IsUtf8 bs → IsCharBoundary bs len → IsCharBoundary bs (len + n)
+trivia_boundary bs len n within p u b = IsCharBoundary-from_rest bs len n within (cut_at n (drop len bs) p.within (IsUtf8-drop bs len u b) (piece_ascii (take n (drop len bs)) p.piece))

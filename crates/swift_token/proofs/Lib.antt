@@ -5,10 +5,10 @@ pub mod Places
 pub mod Numbers
 pub mod Scanned
 pub mod Escapes
-pub mod Standings
+pub mod NextLexemeLemmas
 pub mod Soundness
 pub mod Completeness
-pub mod GapLemmas
+pub mod TriviaLemmas
 pub mod Boundaries
 pub mod Placing
 pub mod Lexed

@@ -55,8 +55,8 @@ column_along before (c ∷ cs) all =
     let same : column_behind (before ++ (c ∷ cs)) ≡ column_behind ((before ++ (c ∷ [])) ++ cs) = ap column_behind (sym (append_assoc before (c ∷ []) cs)) in
     omega (arith, same, later, here)
 
--- a gap has a line feed exactly where the line behind it is another
-any_feed : (gap : List ℕ) → list_any is_line_feed gap ≡ ltb 0 (count_by is_line_feed gap)
+-- trivia has a line feed exactly where the line behind it is another
+any_feed : (trivia : List ℕ) → list_any is_line_feed trivia ≡ ltb 0 (count_by is_line_feed trivia)
 any_feed [] = refl
 any_feed (c ∷ cs) =
     let more : count_by is_line_feed (c ∷ cs) ≡ feeds c + count_by is_line_feed cs = sum_by-cons feeds c cs in
@@ -69,12 +69,12 @@ any_feed (c ∷ cs) =
     ap (λ (b : Bool). b || list_any is_line_feed cs) e ∙ any_feed cs ∙ ap (ltb 0) (sym same))
     (cases_Bool (is_line_feed c))
 
-pub gap_feeds : (before gap : List ℕ) → list_any is_line_feed gap ≡ ltb (line_behind before) (line_behind (before ++ gap))
-gap_feeds before gap =
-    let more : count_by is_line_feed (before ++ gap) ≡ count_by is_line_feed before + count_by is_line_feed gap = sum_by-append feeds before gap in
-    ⊎_elim (λ (h : 0 < count_by is_line_feed gap). any_feed gap ∙ lt-ltb 0 (count_by is_line_feed gap) h ∙ sym (lt-ltb (line_behind before) (line_behind (before ++ gap)) (omega (arith, more))))
-    (λ (h : count_by is_line_feed gap ≤ 0). any_feed gap ∙ le-ltb 0 (count_by is_line_feed gap) h ∙ sym (le-ltb (line_behind before) (line_behind (before ++ gap)) (omega (arith, more))))
-    (cases_lt 0 (count_by is_line_feed gap))
+pub trivia_feeds : (before trivia : List ℕ) → list_any is_line_feed trivia ≡ ltb (line_behind before) (line_behind (before ++ trivia))
+trivia_feeds before trivia =
+    let more : count_by is_line_feed (before ++ trivia) ≡ count_by is_line_feed before + count_by is_line_feed trivia = sum_by-append feeds before trivia in
+    ⊎_elim (λ (h : 0 < count_by is_line_feed trivia). any_feed trivia ∙ lt-ltb 0 (count_by is_line_feed trivia) h ∙ sym (lt-ltb (line_behind before) (line_behind (before ++ trivia)) (omega (arith, more))))
+    (λ (h : count_by is_line_feed trivia ≤ 0). any_feed trivia ∙ le-ltb 0 (count_by is_line_feed trivia) h ∙ sym (le-ltb (line_behind before) (line_behind (before ++ trivia)) (omega (arith, more))))
+    (cases_lt 0 (count_by is_line_feed trivia))
 
 pub line_bound : (before : List ℕ) → line_behind before ≤ 1 + length before
 line_bound before = omega (arith, count_by-le-length is_line_feed before)

@@ -3,7 +3,7 @@ use Rattle.std.proofs.Common.{◌≡◌, ℕ, zero, suc, ◌+◌, ◌-◌, ◌<�
 use Rattle.std.proofs.lemmas.Bool.{and_parts, and_from, cases_Bool, false≢true, eqb-true, eq-eqb, cond-true, cond-false, not-true, not_from_false}
 use Rattle.std.proofs.lemmas.List.{at_drop_more, nil_from_length}
 use Rattle.swift_token.specs.Texts.{breaks_string}
-use Rattle.swift_token.specs.Gaps.{closes_comment}
+use Rattle.swift_token.specs.Trivia.{closes_comment}
 use Rattle.swift_token.specs.Faults.{closes_string}
 use Rattle.swift_token.specs.Scans.{later, comment_end, string_end}
 

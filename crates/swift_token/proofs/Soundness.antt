@@ -7,22 +7,22 @@ use Rattle.std.proofs.lemmas.List.Sums.{prefix_len-le-length}
 use Rattle.swift_ast.specs.declared.TokenKind.{TokenKind}
 use Rattle.swift_ast.specs.declared.TokenKind.TheVariants.{Identifier, Keyword, Integer, StringText, Mark}
 use Rattle.swift_token.specs.declared.faults.LexWhat.TheVariants.{BadCharacter, BadNumber, WideNumber, BadEscape, OpenComment}
-use Rattle.swift_token.specs.declared.standing.Standing.{Standing}
-use Rattle.swift_token.specs.declared.standing.Standing.TheVariants.{End, Token, Fault}
+use Rattle.swift_token.specs.declared.next_lexeme.NextLexeme.{NextLexeme}
+use Rattle.swift_token.specs.declared.next_lexeme.NextLexeme.TheVariants.{End, Token, Fault}
 use Rattle.swift_token.specs.Texts.{is_blank, is_digit, is_letter, begins_word, is_word_byte, is_word, is_keyword, is_number, number_value, ends_string, is_token_text, is_among, marks, long_marks, short_marks}
 use Rattle.swift_token.specs.Spelling.{begins_by, IsLongest, IsTokenIn, begins_comment}
-use Rattle.swift_token.specs.Gaps.{BeginsWith, NoPiece, is_last_line, ends_line}
+use Rattle.swift_token.specs.Trivia.{BeginsWith, NoTriviaPiece, is_last_line, ends_line}
 use Rattle.swift_token.specs.Faults.{closes_string, FaultAt}
 use Rattle.swift_token.specs.Scans.{string_end, bad_escape}
-use Rattle.swift_token.specs.Standing.{is_number_byte, number_len, number_stands, word_stands, closed_stands, ended_stands, mark_stands, comment_stands, stands}
+use Rattle.swift_token.specs.NextLexeme.{is_number_byte, number_len, number_lexeme, word_lexeme, closed_lexeme, ended_lexeme, mark_lexeme, comment_lexeme, next_lexeme}
 use Rattle.swift_token.proofs.Fronts.{front_passes, front_stops, among_passes}
 use Rattle.swift_token.proofs.Words.{keyword_is_word, word_bytes, number_bytes, token_some}
 use Rattle.swift_token.proofs.Longest.{longest_word, no_comment_at}
 use Rattle.swift_token.proofs.Scanned.{string_ends, string_through, Through}
 use Rattle.swift_token.proofs.Escapes.{strict_closes, strict_from, bad_in}
-use Rattle.swift_token.proofs.Standings.{digit_way, word_way, other_way, two_long, one_long, among_long, among_short, among_split, mark_first}
+use Rattle.swift_token.proofs.NextLexemeLemmas.{digit_way, word_way, other_way, two_long, one_long, among_long, among_short, among_split, mark_first}
 
-abbrev pub IsStanding : Standing → List ℕ → Type 0
+abbrev pub IsStanding : NextLexeme → List ℕ → Type 0
 IsStanding End bs = is_last_line bs ≡ true
 IsStanding (Token kind n) bs = (n ≤ length bs) × IsTokenIn kind (take n bs) (drop n bs)
 IsStanding (Fault what n) bs = (n ≤ length bs) × FaultAt what (take n bs) (drop n bs)
@@ -66,7 +66,7 @@ number_token c cs front back e d n stops narrow = record {
   no_comment = first_no_comment c cs front back e (digit_no_slash c d);
 }
 
-number_sound : (c : ℕ) (cs : List ℕ) → is_digit c ≡ true → IsStanding (number_stands (c ∷ cs)) (c ∷ cs)
+number_sound : (c : ℕ) (cs : List ℕ) → is_digit c ≡ true → IsStanding (number_lexeme (c ∷ cs)) (c ∷ cs)
 number_sound c cs d =
     let n = number_len (c ∷ cs) in
     let front = take (number_len (c ∷ cs)) (c ∷ cs) in
@@ -75,15 +75,15 @@ number_sound c cs d =
     let stops : begins_by is_number_byte (drop (number_len (c ∷ cs)) (c ∷ cs)) ≡ false = front_stops is_number_byte (c ∷ cs) in
     let number : is_number (take (number_len (c ∷ cs)) (c ∷ cs)) ≡ true = number_front c cs front back whole d (front_passes is_number_byte (c ∷ cs)) stops in
     ⊎_elim (λ (l : begins_by is_letter (drop (number_len (c ∷ cs)) (c ∷ cs)) ≡ true).
-    subst (λ (s : Standing). IsStanding s (c ∷ cs)) (sym (cond-true (begins_by is_letter (drop (number_len (c ∷ cs)) (c ∷ cs))) (Fault BadNumber 0) _ l)) (omega arith, number_letter (c ∷ cs) front back whole number l))
+    subst (λ (s : NextLexeme). IsStanding s (c ∷ cs)) (sym (cond-true (begins_by is_letter (drop (number_len (c ∷ cs)) (c ∷ cs))) (Fault BadNumber 0) _ l)) (omega arith, number_letter (c ∷ cs) front back whole number l))
     (λ (l : begins_by is_letter (drop (number_len (c ∷ cs)) (c ∷ cs)) ≡ false).
     let apart = number_apart back stops l in
-    subst (λ (s : Standing). IsStanding s (c ∷ cs)) (sym (cond-false (begins_by is_letter (drop (number_len (c ∷ cs)) (c ∷ cs))) (Fault BadNumber 0) _ l))
+    subst (λ (s : NextLexeme). IsStanding s (c ∷ cs)) (sym (cond-false (begins_by is_letter (drop (number_len (c ∷ cs)) (c ∷ cs))) (Fault BadNumber 0) _ l))
     (⊎_elim (λ (v : leb (number_value (take (number_len (c ∷ cs)) (c ∷ cs))) 9223372036854775807 ≡ true).
-    subst (λ (s : Standing). IsStanding s (c ∷ cs)) (sym (cond-true (leb (number_value (take (number_len (c ∷ cs)) (c ∷ cs))) 9223372036854775807) (Token Integer n) (Fault WideNumber 0) v))
+    subst (λ (s : NextLexeme). IsStanding s (c ∷ cs)) (sym (cond-true (leb (number_value (take (number_len (c ∷ cs)) (c ∷ cs))) 9223372036854775807) (Token Integer n) (Fault WideNumber 0) v))
     (prefix_len-le-length is_number_byte (c ∷ cs), number_token c cs front back whole d number apart v))
     (λ (v : leb (number_value (take (number_len (c ∷ cs)) (c ∷ cs))) 9223372036854775807 ≡ false).
-    subst (λ (s : Standing). IsStanding s (c ∷ cs)) (sym (cond-false (leb (number_value (take (number_len (c ∷ cs)) (c ∷ cs))) 9223372036854775807) (Token Integer n) (Fault WideNumber 0) v))
+    subst (λ (s : NextLexeme). IsStanding s (c ∷ cs)) (sym (cond-false (leb (number_value (take (number_len (c ∷ cs)) (c ∷ cs))) 9223372036854775807) (Token Integer n) (Fault WideNumber 0) v))
     (omega arith, (refl, front, back, whole, number, apart, leb-false (number_value (take (number_len (c ∷ cs)) (c ∷ cs))) 9223372036854775807 v)))
     (cases_Bool (leb (number_value (take (number_len (c ∷ cs)) (c ∷ cs))) 9223372036854775807))))
     (cases_Bool (begins_by is_letter (drop (number_len (c ∷ cs)) (c ∷ cs))))
@@ -106,7 +106,7 @@ word_token_in kind c cs front back e w word stops spelled = record {
   no_comment = first_no_comment c cs front back e (word_no_slash c w);
 }
 
-word_sound : (c : ℕ) (cs : List ℕ) → begins_word c ≡ true → IsStanding (word_stands (c ∷ cs)) (c ∷ cs)
+word_sound : (c : ℕ) (cs : List ℕ) → begins_word c ≡ true → IsStanding (word_lexeme (c ∷ cs)) (c ∷ cs)
 word_sound c cs w =
     let front = take (prefix_len is_word_byte (c ∷ cs)) (c ∷ cs) in
     let back = drop (prefix_len is_word_byte (c ∷ cs)) (c ∷ cs) in
@@ -143,7 +143,7 @@ longest_string t after h Mark more rest e s = absurd (true≢false (mark_first 3
 string_token : (t after : List ℕ) → ends_string false t ≡ true → IsTokenIn StringText (34 ∷ t) after
 string_token t after h = record { spelled = h; longest = longest_string t after h; number_ends = λ e. absurd (cc); no_comment = no_comment_at 34 (t ++ after) refl }
 
-closed_sound : (cs : List ℕ) (n : ℕ) (found : Option ℕ) → Through (closes_string false) n cs → bad_escape false (take n cs) ≡ found → IsStanding (closed_stands n found) (34 ∷ cs)
+closed_sound : (cs : List ℕ) (n : ℕ) (found : Option ℕ) → Through (closes_string false) n cs → bad_escape false (take n cs) ≡ found → IsStanding (closed_lexeme n found) (34 ∷ cs)
 closed_sound cs n None through none =
     let next : suc n ≡ n + 1 = omega arith in
     subst (λ (k : ℕ). IsStanding (Token StringText k) (34 ∷ cs)) next (omega (arith, through.1), string_token (take n cs) (drop n cs) (strict_from false (take n cs) through.0 none))
@@ -159,7 +159,7 @@ closed_sound cs n (Some k) through some =
       (b.good, b.bad, b.rest ++ drop n cs, ap (λ (x : List ℕ). 34 ∷ x) front, back, b.part, b.no_escape, (b.rest, drop n cs, refl, b.closed)),
     )
 
-ended_sound : (cs : List ℕ) (found : Option ℕ) → string_end false cs ≡ found → IsStanding (ended_stands cs found) (34 ∷ cs)
+ended_sound : (cs : List ℕ) (found : Option ℕ) → string_end false cs ≡ found → IsStanding (ended_lexeme cs found) (34 ∷ cs)
 ended_sound cs None h =
     (omega arith, (refl, cs, refl, λ b. let e : None ≡ Some (length b.0) = sym h ∙ ap (string_end false) b.2 ∙ string_ends false b.0 b.1 b.3 in absurd (cc)))
 ended_sound cs (Some n) h = closed_sound cs n (bad_escape false (take n cs)) (string_through false cs n h) refl
@@ -175,16 +175,16 @@ line_or_piece (c ∷ cs) =
     (line_or_piece cs))
     (cases_Bool (eqb c 10))
 
-line_sound : (cs : List ℕ) → NoPiece (47 ∷ 47 ∷ cs) → is_last_line (47 ∷ 47 ∷ cs) ≡ true
+line_sound : (cs : List ℕ) → NoTriviaPiece (47 ∷ 47 ∷ cs) → is_last_line (47 ∷ 47 ∷ cs) ≡ true
 line_sound cs none =
     ⊎_elim (λ (all : list_all (λ (e : ℕ). not (eqb e 10)) cs ≡ true). all)
     (λ (b : BeginsWith ends_line cs). absurd (none (47 ∷ 47 ∷ b.0, b.1, ap (λ (x : List ℕ). 47 ∷ 47 ∷ x) b.2, or_left (ends_line b.0) false b.3)))
     (line_or_piece cs)
 
-open_sound : (cs : List ℕ) → NoPiece (47 ∷ 42 ∷ cs) → FaultAt OpenComment [] (47 ∷ 42 ∷ cs)
+open_sound : (cs : List ℕ) → NoTriviaPiece (47 ∷ 42 ∷ cs) → FaultAt OpenComment [] (47 ∷ 42 ∷ cs)
 open_sound cs none = (refl, cs, refl, λ b. none (47 ∷ 42 ∷ b.0, b.1, ap (λ (x : List ℕ). 47 ∷ 42 ∷ x) b.2, b.3))
 
-comment_sound : (c : ℕ) (cs : List ℕ) → NoPiece (c ∷ cs) → begins_comment (c ∷ cs) ≡ true → IsStanding (comment_stands cs) (c ∷ cs)
+comment_sound : (c : ℕ) (cs : List ℕ) → NoTriviaPiece (c ∷ cs) → begins_comment (c ∷ cs) ≡ true → IsStanding (comment_lexeme cs) (c ∷ cs)
 comment_sound c [] none h = absurd (false≢true h)
 comment_sound c (d ∷ ds) none h =
     let both = and_parts (eqb c 47) (eqb d 47 || eqb d 42) h in
@@ -192,13 +192,13 @@ comment_sound c (d ∷ ds) none h =
     ⊎_elim (λ (s : eqb d 42 ≡ true).
     let star : 42 ≡ d = sym (eqb-true d 42 s) in
     let pair : 47 ∷ 42 ∷ ds ≡ c ∷ d ∷ ds = ap (λ (x : ℕ). x ∷ 42 ∷ ds) slash ∙ ap (λ (x : ℕ). c ∷ x ∷ ds) star in
-    subst (λ (t : Standing). IsStanding t (c ∷ d ∷ ds)) (sym (cond-true (eqb d 42) (Fault OpenComment 0) End s))
-    (omega arith, subst (λ (x : List ℕ). FaultAt OpenComment [] x) pair (open_sound ds (subst (λ (x : List ℕ). NoPiece x) (sym pair) none))))
+    subst (λ (t : NextLexeme). IsStanding t (c ∷ d ∷ ds)) (sym (cond-true (eqb d 42) (Fault OpenComment 0) End s))
+    (omega arith, subst (λ (x : List ℕ). FaultAt OpenComment [] x) pair (open_sound ds (subst (λ (x : List ℕ). NoTriviaPiece x) (sym pair) none))))
     (λ (s : eqb d 42 ≡ false).
     let second : 47 ≡ d = ⊎_elim (λ (e : eqb d 47 ≡ true). sym (eqb-true d 47 e)) (λ (e : eqb d 42 ≡ true). absurd (false≢true (sym s ∙ e))) (or_cases (eqb d 47) (eqb d 42) both.1) in
     let pair : 47 ∷ 47 ∷ ds ≡ c ∷ d ∷ ds = ap (λ (x : ℕ). x ∷ 47 ∷ ds) slash ∙ ap (λ (x : ℕ). c ∷ x ∷ ds) second in
-    subst (λ (t : Standing). IsStanding t (c ∷ d ∷ ds)) (sym (cond-false (eqb d 42) (Fault OpenComment 0) End s))
-    (subst (λ (x : List ℕ). is_last_line x ≡ true) pair (line_sound ds (subst (λ (x : List ℕ). NoPiece x) (sym pair) none))))
+    subst (λ (t : NextLexeme). IsStanding t (c ∷ d ∷ ds)) (sym (cond-false (eqb d 42) (Fault OpenComment 0) End s))
+    (subst (λ (x : List ℕ). is_last_line x ≡ true) pair (line_sound ds (subst (λ (x : List ℕ). NoTriviaPiece x) (sym pair) none))))
     (cases_Bool (eqb d 42))
 
 -- marks
@@ -242,11 +242,11 @@ no_mark bs l s b =
     false≢true (sym s ∙ ap (is_among short_marks) one ∙ h))
     (or_cases (is_among long_marks b.0) (is_among short_marks b.0) (among_split b.0 b.3))
 
-mark_sound : (c : ℕ) (cs : List ℕ) → NoPiece (c ∷ cs) → is_word_byte c ≡ false → eqb c 34 ≡ false → begins_comment (c ∷ cs) ≡ false → IsStanding (mark_stands (c ∷ cs)) (c ∷ cs)
+mark_sound : (c : ℕ) (cs : List ℕ) → NoTriviaPiece (c ∷ cs) → is_word_byte c ≡ false → eqb c 34 ≡ false → begins_comment (c ∷ cs) ≡ false → IsStanding (mark_lexeme (c ∷ cs)) (c ∷ cs)
 mark_sound c cs none w q n =
     ⊎_elim (λ (l : is_among long_marks (take 2 (c ∷ cs)) ≡ true).
     let two = two_long (take 2 (c ∷ cs)) l in
-    subst (λ (s : Standing). IsStanding s (c ∷ cs)) (sym (cond-true (is_among long_marks (take 2 (c ∷ cs))) (Token Mark 2) _ l)) (
+    subst (λ (s : NextLexeme). IsStanding s (c ∷ cs)) (sym (cond-true (is_among long_marks (take 2 (c ∷ cs))) (Token Mark 2) _ l)) (
       omega (arith, two, length-take 2 (c ∷ cs)),
       record {
         spelled = among_long (take 2 (c ∷ cs)) l;
@@ -256,12 +256,12 @@ mark_sound c cs none w q n =
       },
     ))
     (λ (l : is_among long_marks (take 2 (c ∷ cs)) ≡ false).
-    subst (λ (s : Standing). IsStanding s (c ∷ cs)) (sym (cond-false (is_among long_marks (take 2 (c ∷ cs))) (Token Mark 2) _ l))
+    subst (λ (s : NextLexeme). IsStanding s (c ∷ cs)) (sym (cond-false (is_among long_marks (take 2 (c ∷ cs))) (Token Mark 2) _ l))
     (⊎_elim (λ (s : is_among short_marks (c ∷ []) ≡ true).
-    subst (λ (x : Standing). IsStanding x (c ∷ cs)) (sym (cond-true (is_among short_marks (c ∷ [])) (Token Mark 1) (Fault BadCharacter 0) s))
+    subst (λ (x : NextLexeme). IsStanding x (c ∷ cs)) (sym (cond-true (is_among short_marks (c ∷ [])) (Token Mark 1) (Fault BadCharacter 0) s))
     (omega arith, record { spelled = among_short (c ∷ []) s; longest = short_longest c cs s l; number_ends = λ e. absurd (cc); no_comment = n }))
     (λ (s : is_among short_marks (c ∷ []) ≡ false).
-    subst (λ (x : Standing). IsStanding x (c ∷ cs)) (sym (cond-false (is_among short_marks (c ∷ [])) (Token Mark 1) (Fault BadCharacter 0) s)) (
+    subst (λ (x : NextLexeme). IsStanding x (c ∷ cs)) (sym (cond-false (is_among short_marks (c ∷ [])) (Token Mark 1) (Fault BadCharacter 0) s)) (
       omega arith,
       (
         refl,
@@ -276,22 +276,22 @@ mark_sound c cs none w q n =
     (cases_Bool (is_among long_marks (take 2 (c ∷ cs))))
 
 -- What stands first is what the lexer finds.
-pub stands_sound : (bs : List ℕ) → NoPiece bs → IsStanding (stands bs) bs
+pub stands_sound : (bs : List ℕ) → NoTriviaPiece bs → IsStanding (next_lexeme bs) bs
 stands_sound [] none = refl
 stands_sound (c ∷ cs) none =
-    ⊎_elim (λ (d : is_digit c ≡ true). subst (λ (s : Standing). IsStanding s (c ∷ cs)) (sym (digit_way c cs d)) (number_sound c cs d))
+    ⊎_elim (λ (d : is_digit c ≡ true). subst (λ (s : NextLexeme). IsStanding s (c ∷ cs)) (sym (digit_way c cs d)) (number_sound c cs d))
     (λ (d : is_digit c ≡ false).
-    ⊎_elim (λ (w : begins_word c ≡ true). subst (λ (s : Standing). IsStanding s (c ∷ cs)) (sym (word_way c cs w)) (word_sound c cs w))
+    ⊎_elim (λ (w : begins_word c ≡ true). subst (λ (s : NextLexeme). IsStanding s (c ∷ cs)) (sym (word_way c cs w)) (word_sound c cs w))
     (λ (w : begins_word c ≡ false).
     ⊎_elim (λ (q : eqb c 34 ≡ true).
-    subst (λ (x : ℕ). IsStanding (stands (x ∷ cs)) (x ∷ cs)) (sym (eqb-true c 34 q)) (ended_sound cs (string_end false cs) refl))
+    subst (λ (x : ℕ). IsStanding (next_lexeme (x ∷ cs)) (x ∷ cs)) (sym (eqb-true c 34 q)) (ended_sound cs (string_end false cs) refl))
     (λ (q : eqb c 34 ≡ false).
     let word : is_word_byte c ≡ false = or_from (begins_word c) (is_digit c) w d in
-    subst (λ (s : Standing). IsStanding s (c ∷ cs)) (sym (other_way c cs word q))
+    subst (λ (s : NextLexeme). IsStanding s (c ∷ cs)) (sym (other_way c cs word q))
     (⊎_elim (λ (n : begins_comment (c ∷ cs) ≡ true).
-    subst (λ (s : Standing). IsStanding s (c ∷ cs)) (sym (cond-true (begins_comment (c ∷ cs)) (comment_stands cs) (mark_stands (c ∷ cs)) n)) (comment_sound c cs none n))
+    subst (λ (s : NextLexeme). IsStanding s (c ∷ cs)) (sym (cond-true (begins_comment (c ∷ cs)) (comment_lexeme cs) (mark_lexeme (c ∷ cs)) n)) (comment_sound c cs none n))
     (λ (n : begins_comment (c ∷ cs) ≡ false).
-    subst (λ (s : Standing). IsStanding s (c ∷ cs)) (sym (cond-false (begins_comment (c ∷ cs)) (comment_stands cs) (mark_stands (c ∷ cs)) n)) (mark_sound c cs none word q n))
+    subst (λ (s : NextLexeme). IsStanding s (c ∷ cs)) (sym (cond-false (begins_comment (c ∷ cs)) (comment_lexeme cs) (mark_lexeme (c ∷ cs)) n)) (mark_sound c cs none word q n))
     (cases_Bool (begins_comment (c ∷ cs)))))
     (cases_Bool (eqb c 34)))
     (cases_Bool (begins_word c)))

@@ -10,18 +10,18 @@ use Rattle.swift_token.specs.declared.faults.LexEnd.TheVariants.{Fault, NoMemory
 use Rattle.swift_ast.specs.declared.Token.{Token}
 use Rattle.swift_token.specs.Texts.{is_escape, breaks_string, is_blank, is_letter, is_word_byte, is_number, number_value, is_among, marks}
 use Rattle.swift_token.specs.Spelling.{begins_by, IsTokenIn, IsPlaced, line_behind, column_behind}
-use Rattle.swift_token.specs.Gaps.{IsGap, IsLastGap, BeginsWith, closes_comment}
+use Rattle.swift_token.specs.Trivia.{IsTrivia, IsLastTrivia, BeginsWith, closes_comment}
 
 -- The tokens spell the text behind `before`, a text through a token, with blanks and comments between them, up to what stands at the end.
 abbrev pub SpellsTo : (List ℕ → List ℕ → Type 0) → List ℕ → List Leaf → List ℕ → Type 0
 SpellsTo End before [] rest = End before rest
 SpellsTo End before (t ∷ ts) rest =
-    (gap : List ℕ) × (after : List ℕ) × IsGap gap × (rest ≡ gap ++ (t.text ++ after)) × IsTokenIn t.kind t.text after × IsPlaced before gap t
-    × SpellsTo End (before ++ (gap ++ t.text)) ts after
+    (trivia : List ℕ) × (after : List ℕ) × IsTrivia trivia × (rest ≡ trivia ++ (t.text ++ after)) × IsTokenIn t.kind t.text after × IsPlaced before trivia t
+    × SpellsTo End (before ++ (trivia ++ t.text)) ts after
 
 -- The tokens spell the text, and blanks and comments stand behind the last.
 abbrev pub Spells : List Leaf → List ℕ → Type 0
-Spells ts text = SpellsTo (λ before rest. IsLastGap rest) [] ts text
+Spells ts text = SpellsTo (λ before rest. IsLastTrivia rest) [] ts text
 
 -- characters of a string and escapes, none of which is cut off at the end
 abbrev pub is_string_part : Bool → List ℕ → Bool
@@ -48,11 +48,11 @@ FaultAt BadEscape front after =
     (good : List ℕ) × (d : ℕ) × (cs : List ℕ) × (front ≡ 34 ∷ good) × (after ≡ 92 ∷ d ∷ cs) × (is_string_part false good ≡ true) × ((is_escape d || breaks_string d) ≡ false) × BeginsWith (closes_string false) cs
 FaultAt OpenComment front after = (front ≡ []) × (cs : List ℕ) × (after ≡ 47 ∷ 42 ∷ cs) × (BeginsWith (closes_comment 1 0) cs → ⊥)
 
--- The fault stands behind a gap in what is left behind `before`.
+-- The fault stands behind trivia in what is left behind `before`.
 abbrev pub IsFault : LexFault → List ℕ → List ℕ → Type 0
 IsFault f before rest =
-    (gap : List ℕ) × (front : List ℕ) × (after : List ℕ) × IsGap gap × (rest ≡ gap ++ (front ++ after)) × FaultAt f.what front after
-    × (f.line ≡ line_behind (before ++ (gap ++ front))) × (f.column ≡ column_behind (before ++ (gap ++ front)))
+    (trivia : List ℕ) × (front : List ℕ) × (after : List ℕ) × IsTrivia trivia × (rest ≡ trivia ++ (front ++ after)) × FaultAt f.what front after
+    × (f.line ≡ line_behind (before ++ (trivia ++ front))) × (f.column ≡ column_behind (before ++ (trivia ++ front)))
 
 -- The text has the lexical fault: tokens spell it up to the fault.
 abbrev pub HasFault : LexFault → List ℕ → Type 0

@@ -1,7 +1,7 @@
 pub mod Texts
 pub mod Spelling
-pub mod Gaps
+pub mod Trivia
 pub mod Faults
 pub mod Scans
-pub mod Standing
-pub mod Placing
+pub mod NextLexeme
+pub mod Positions

@@ -36,6 +36,6 @@ slash_end [] = None
 slash_end (d ∷ ds) = if d == 47 then later 2 (line_end ds) else (if d == 42 then later 2 (comment_end 1 0 ds) else None)
 
 -- how many bytes the blank or the comment has that stands first, if one does
-abbrev pub piece_end : List ℕ → Option ℕ
-piece_end [] = None
-piece_end (c ∷ cs) = if is_blank c then Some 1 else (if c == 47 then slash_end cs else None)
+abbrev pub trivia_piece_end : List ℕ → Option ℕ
+trivia_piece_end [] = None
+trivia_piece_end (c ∷ cs) = if is_blank c then Some 1 else (if c == 47 then slash_end cs else None)

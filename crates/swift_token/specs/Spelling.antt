@@ -39,22 +39,22 @@ pub record IsTokenIn (kind : TokenKind) (text after : List ℕ) : Type 0 where
   pub number_ends : kind ≡ Integer → begins_by is_word_byte after ≡ false
   pub no_comment : begins_comment (text ++ after) ≡ false
 
--- A token's place and whether it is first on its line, by the text through the token before it and the gap between the two.
-pub record IsPlaced (before gap : List ℕ) (t : Leaf) : Type 0 where
-  pub line : t.line ≡ line_behind (before ++ gap)
-  pub column : t.column ≡ column_behind (before ++ gap)
-  pub first_on_line : t.first_on_line ≡ (length before == 0 || list_any is_line_feed gap)
+-- A token's place and whether it is first on its line, by the text through the token before it and the trivia between the two.
+pub record IsPlaced (before trivia : List ℕ) (t : Leaf) : Type 0 where
+  pub line : t.line ≡ line_behind (before ++ trivia)
+  pub column : t.column ≡ column_behind (before ++ trivia)
+  pub first_on_line : t.first_on_line ≡ (length before == 0 || list_any is_line_feed trivia)
 
--- The tokens spell what stands behind `before`, a text through a token, where gaps of the kind stand between tokens and at both ends.
+-- The tokens spell what stands behind `before`, a text through a token, where trivia of the kind stand between tokens and at both ends.
 abbrev pub SpellsBehind : (List ℕ → Type 0) → List ℕ → List Leaf → List ℕ → Type 0
-SpellsBehind IsGap before [] rest = IsGap rest
-SpellsBehind IsGap before (t ∷ ts) rest =
-    (gap : List ℕ) × (after : List ℕ) × IsGap gap × (rest ≡ gap ++ (t.text ++ after)) × IsTokenIn t.kind t.text after × IsPlaced before gap t
-    × SpellsBehind IsGap (before ++ (gap ++ t.text)) ts after
+SpellsBehind IsTrivia before [] rest = IsTrivia rest
+SpellsBehind IsTrivia before (t ∷ ts) rest =
+    (trivia : List ℕ) × (after : List ℕ) × IsTrivia trivia × (rest ≡ trivia ++ (t.text ++ after)) × IsTokenIn t.kind t.text after × IsPlaced before trivia t
+    × SpellsBehind IsTrivia (before ++ (trivia ++ t.text)) ts after
 
 -- blanks alone
 abbrev pub IsBlanks : List ℕ → Type 0
-IsBlanks gap = list_all is_blank gap ≡ true
+IsBlanks trivia = list_all is_blank trivia ≡ true
 
 -- The tokens spell the text with blanks between them.
 abbrev pub SpellsByBlanks : List Leaf → List ℕ → Type 0

@@ -2,14 +2,14 @@ ghost use Rattle.std.specs.Prelude.{◌≡◌, ◌||◌, ◌-◌, ◌<◌, ◌^�
 ghost use Rattle.swift_token.specs.Faults.{Lexes};
 
 use crate::faults::{LexEnd, LexFault};
-use crate::gaps::gap_len;
-use crate::positions::Place;
-use crate::standing::{Standing, stands};
+use crate::next_lexeme::{NextLexeme, next_lexeme};
+use crate::positions::Position;
+use crate::trivia::trivia_len;
 use std::alloc::Global;
 use swift_ast::Token;
 
 /// Whether a token is the first of its line: the first of all, or on another line than what stands before it.
-pub fn is_first_on_line(is_first: bool, before: Place, start: Place) -> bool
+pub fn is_first_on_line(is_first: bool, before: Position, start: Position) -> bool
     ensures { result ≡ (is_first || nat_lt before.line start.line) }
 {
     is_first || before.line < start.line
@@ -24,19 +24,19 @@ pub fn tokens<'a>(alloc: Global, text: &'a str) -> Result<Vec<Token<'a>>, LexEnd
     ensures { Lexes result text.now }
 {
     let mut tokens = Vec::new(alloc);
-    let mut place = Place { line: 1, column: 1 };
+    let mut place = Position { line: 1, column: 1 };
     let mut rest = text;
     'tokens: loop {
-        let (gap, behind) = rest.split_at(gap_len(rest.as_bytes()));
-        let start = place.behind(gap.as_bytes());
-        match stands(behind.as_bytes()) {
-            Standing::End => return Ok(tokens),
-            Standing::Fault(what, at) => {
+        let (trivia, behind) = rest.split_at(trivia_len(rest.as_bytes()));
+        let start = place.behind(trivia.as_bytes());
+        match next_lexeme(behind.as_bytes()) {
+            NextLexeme::End => return Ok(tokens),
+            NextLexeme::Fault(what, at) => {
                 let (front, _) = behind.as_bytes().split_at(at);
-                let Place { line, column } = start.behind(front);
+                let Position { line, column } = start.behind(front);
                 return Err(LexEnd::Fault(LexFault { line, column, what }));
             }
-            Standing::Token(kind, len) => {
+            NextLexeme::Token(kind, len) => {
                 let (text, after) = behind.split_at(len);
                 let first_on_line = is_first_on_line(tokens.is_empty(), place, start);
                 tokens.push(Token {

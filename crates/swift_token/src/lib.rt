@@ -3,20 +3,20 @@
 
 mod comments;
 mod faults;
-mod gaps;
 mod identifiers;
 mod lexemes;
 mod lexer;
 mod marks;
+mod next_lexeme;
 mod positions;
-mod standing;
 mod strings;
+mod trivia;
 
 pub use faults::{LexEnd, LexFault, LexWhat};
 pub use identifiers::{begins_word, is_identifier, is_keyword, is_word, is_word_byte};
 pub use lexemes::{blanks_len, is_blank, is_integer, word_len};
 pub use lexer::{is_first_on_line, tokens};
-pub use positions::Place;
+pub use positions::Position;
 pub use swift_ast::{Token, TokenKind};
 
 #[cfg(test)]

@@ -1,9 +1,9 @@
 ghost use Rattle.std.specs.Prelude.{ℕ, List, ◌+◌, ◌<◌, ◌^◌, ◌++◌, ◌≤◌, length};
-ghost use Rattle.swift_token.specs.Placing.{IsPlaceBehind};
+ghost use Rattle.swift_token.specs.Positions.{IsPositionBehind};
 
 /// A place in a text.
 #[derive(Clone, Copy, Debug)]
-pub struct Place {
+pub struct Position {
     /// The line, from 1.
     pub line: u32,
 
@@ -11,12 +11,12 @@ pub struct Place {
     pub column: u32,
 }
 
-impl Place {
+impl Position {
     /// The place behind bytes that begin at this one.
-    pub fn behind(self, bytes: &[u8]) -> Place
+    pub fn behind(self, bytes: &[u8]) -> Position
         requires line_fits { self.line + length bytes.now < 2 ^ 32 }
         requires column_fits { self.column + length bytes.now < 2 ^ 32 }
-        ensures { (before : List ℕ) → IsPlaceBehind self before → IsPlaceBehind result (before ++ bytes.now) }
+        ensures { (before : List ℕ) → IsPositionBehind self before → IsPositionBehind result (before ++ bytes.now) }
     {
         let mut line = self.line;
         let mut column = self.column;
@@ -28,6 +28,6 @@ impl Place {
                 column += 1;
             }
         }
-        Place { line, column }
+        Position { line, column }
     }
 }

@@ -8,7 +8,7 @@ use Rattle.std.proofs.lemmas.List.{append-nil, map-append}
 use Rattle.std.proofs.lemmas.Bool.{le-ltb}
 use Rattle.std.proofs.lemmas.List.Concat.{flat_map-cons}
 use Rattle.std.proofs.lemmas.Str.{is_utf8-from_IsUtf8}
-use Rattle.bitstream.specs.Reading.{Seen, Enters, Leaves, Record}
+use Rattle.bitstream.specs.Reading.{Seen, Enters, LeaveBlock, Record}
 use Rattle.bitstream.specs.Items.{items_in}
 use Rattle.bitstream.specs.declared.item.BitFault.{BitFault}
 use Rattle.dep_key.specs.declared.kind.Kind.{Kind}
@@ -18,7 +18,8 @@ use Rattle.dep_key.specs.declared.kind.Aspect.TheVariants.{Interface, Implementa
 use Rattle.dep_key.specs.declared.key.Key.{Key}
 use Rattle.dep_key.specs.declared.graph.Node.{Node}
 use Rattle.dep_key.specs.declared.graph.FileGraph.{FileGraph}
-use Rattle.dep_key.specs.KeyOrder.{kind_at, kind_number, aspect_at, aspect_number, is_filled, key_order_total}
+use Rattle.dep_key.specs.KeyOrder.{kind_at, kind_number, aspect_at, aspect_number, key_order_total}
+use Rattle.dep_key.specs.KeyShapes.{is_filled}
 use Rattle.dep_key.specs.GraphOrder.{AreAscending, keys_of}
 use Rattle.swiftdeps.specs.declared.fault.DepsFault.{DepsFault}
 use Rattle.swiftdeps.specs.declared.stage.Stage.{Stage}
@@ -288,7 +289,7 @@ version_again : (one : Bool) (at version : ℕ) → is_version one version ≡ t
 unfolding record_at version_at
 version_again one at version v = rw v refl
 
-leave_again : (one : Bool) (at : ℕ) (s : State) → may_end one s.stage ≡ true → item_at one at Leaves s ≡ Ok (record s { stage = Behind })
+leave_again : (one : Bool) (at : ℕ) (s : State) → may_end one s.stage ≡ true → item_at one at LeaveBlock s ≡ Ok (record s { stage = Behind })
 unfolding leave_at
 leave_again one at s h = rw h refl
 
@@ -314,9 +315,9 @@ items_again one bits version files items v f h =
     let before : Between s3 version h.names [] = record { stage = inl (refl, refl); version_is = refl; names_are = refl; files_are = refl; last_is = refl } in
     let p4 = files_pass one bits None s3 version h.names [] files before f h.are_files.1 h.are_files.0 in
     let s5 : State = record p4.to { stage = Behind } in
-    let p5 = pass_one one bits None Leaves p4.to s5 (λ at. leave_again one at p4.to (end_is_due one p4.to version h.names files p4.there f)) in
+    let p5 = pass_one one bits None LeaveBlock p4.to s5 (λ at. leave_again one at p4.to (end_is_due one p4.to version h.names files p4.there f)) in
     let front = pass_both one bits None (Enters 8 ∷ []) (Record 1 (version ∷ []) None ∷ map identifier_item h.names) nothing_read s1 s3 p1 (pass_both one bits None (Record 1 (version ∷ []) None ∷ []) (map identifier_item h.names) s1 s2 s3 p2 p3) in
-    let all = pass_both one bits None (Enters 8 ∷ Record 1 (version ∷ []) None ∷ map identifier_item h.names) (flat_map (file_items h.names) files ++ Leaves ∷ []) nothing_read s3 s5 front (pass_both one bits None (flat_map (file_items h.names) files) (Leaves ∷ []) s3 p4.to s5 p4.passes p5) in
+    let all = pass_both one bits None (Enters 8 ∷ Record 1 (version ∷ []) None ∷ map identifier_item h.names) (flat_map (file_items h.names) files ++ LeaveBlock ∷ []) nothing_read s3 s5 front (pass_both one bits None (flat_map (file_items h.names) files) (LeaveBlock ∷ []) s3 p4.to s5 p4.passes p5) in
     let done = all items [] (h.spelled ∙ sym (append-nil (spelling version h.names files))) in
     let nothing : done.0 ≡ [] = nil_of done.0 done.1 in
     done.2 ∙ ap (λ (x : List (ℕ × Seen)). items_judged one bits x None s5) nothing ∙ (λ i. Ok (p4.there.version_is i, p4.there.files_are i))

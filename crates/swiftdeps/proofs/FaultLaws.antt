@@ -2,11 +2,12 @@
 use Rattle.std.proofs.Common.{◌≡◌, ℕ, ◌==◌, Bool, true, false, cond, ◌&&◌, List, [], ◌∷◌, ◌++◌, length, Option, Some, None, Result, Ok, Err, refl, sym, ap, ◌∙◌, subst}
 use Rattle.std.specs.Prelude.{is_none, slice_index, not}
 use Rattle.std.specs.Str.{is_utf8}
-use Rattle.bitstream.specs.Reading.{Seen, Enters, Leaves, Record, Ends}
+use Rattle.bitstream.specs.Reading.{Seen, Enters, LeaveBlock, Record, Ends}
 use Rattle.bitstream.specs.Items.{items_in}
 use Rattle.bitstream.specs.declared.item.BitFault.{BitFault}
 use Rattle.bitstream.specs.declared.item.BitFault.TheVariants as bits
-use Rattle.dep_key.specs.KeyOrder.{kind_at, aspect_at, has_shape, is_filled}
+use Rattle.dep_key.specs.KeyOrder.{kind_at, aspect_at}
+use Rattle.dep_key.specs.KeyShapes.{has_shape, is_filled}
 use Rattle.swiftdeps.specs.declared.fault.DepsFault.{DepsFault}
 use Rattle.swiftdeps.specs.declared.fault.DepsFault.TheVariants as faults
 use Rattle.swiftdeps.specs.declared.stage.Stage.{Stage}
@@ -146,7 +147,7 @@ record_mild one at code ops blob s before r =
 item_mild : (one : Bool) (at : ℕ) (item : Seen) (s : State) (before : List Seen) → Reached one s.stage s before → Mild (not one) (item_at one at item s)
 unfolding block_at leave_at
 item_mild one at (Enters block) s before r = guard_mild (not one) (takes_block s.stage && (block == 8)) _ (faults.RecordOrder at) refl (λ h. ok_mild (not one) _)
-item_mild one at Leaves s before r = guard_mild (not one) (may_end one s.stage) _ (faults.RecordOrder at) refl (λ h. ok_mild (not one) _)
+item_mild one at LeaveBlock s before r = guard_mild (not one) (may_end one s.stage) _ (faults.RecordOrder at) refl (λ h. ok_mild (not one) _)
 item_mild one at (Record code ops blob) s before r = record_mild one at code ops blob s before r
 item_mild one at Ends s before r = err_mild {A = State} (not one) (faults.RecordOrder at) refl
 

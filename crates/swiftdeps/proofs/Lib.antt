@@ -1,6 +1,7 @@
 pub mod Complete
 pub mod FaultLaws
 pub mod Lists
+pub mod LongLaws
 pub mod NameLaws
 pub mod Reached
 pub mod ShownLaws

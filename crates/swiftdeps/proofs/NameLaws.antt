@@ -18,7 +18,7 @@ use Rattle.std.proofs.lemmas.List.Sorted.{Contains-permutation, IsPermutation-sy
 use Rattle.std.proofs.lemmas.List.Sums.{prefix_len-le-length}
 use Rattle.indexmap.specs.IndexSet.{insert_key}
 use Rattle.dep_key.specs.declared.graph.FileGraph.{FileGraph}
-use Rattle.dep_key.specs.KeyOrder.{is_filled}
+use Rattle.dep_key.specs.KeyShapes.{is_filled}
 use Rattle.swiftdeps.specs.Spelling.{AreAscendingTexts, place_of}
 use Rattle.swiftdeps.specs.Written.{texts_in, Adds, AreNamesOf}
 use Rattle.swiftdeps.proofs.WriteLaws.{flat_more}

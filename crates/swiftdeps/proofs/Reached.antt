@@ -5,7 +5,7 @@ use Rattle.std.specs.List.{flat_map}
 use Rattle.std.proofs.lemmas.List.{append-nil, map-append}
 use Rattle.std.proofs.lemmas.List.Concat.{flat_map-cons}
 use Rattle.std.proofs.lemmas.Grind.{flat_map-append}
-use Rattle.bitstream.specs.Reading.{Seen, Enters, Leaves, Record}
+use Rattle.bitstream.specs.Reading.{Seen, Enters, LeaveBlock, Record}
 use Rattle.dep_key.specs.declared.key.Key.{Key}
 use Rattle.dep_key.specs.declared.graph.Node.{Node}
 use Rattle.dep_key.specs.declared.graph.FileGraph.{FileGraph}
@@ -54,7 +54,7 @@ Reached is_single Names s items = Fine is_single s × (s.files ≡ []) × (s.pat
 Reached is_single Nodes s items = Fine is_single s × Opened s × One is_single s × (s.nodes ≡ []) × (s.key ≡ None) × (items ≡ front s.version s.names ++ body s.names (files_of s))
 Reached is_single Print s items = Fine is_single s × One is_single s × (opened : OpenedNode s) × (s.print ≡ []) × (s.uses ≡ []) × (items ≡ front s.version s.names ++ up_to_key s.names s.files opened.at s.nodes opened.own)
 Reached is_single Uses s items = Fine is_single s × One is_single s × OpenedNode s × (items ≡ front s.version s.names ++ body s.names (files_of s))
-Reached is_single Behind s items = Fine is_single s × (is_single ≡ true → length (files_of s) ≡ 1) × (items ≡ (front s.version s.names ++ body s.names (files_of s)) ++ Leaves ∷ [])
+Reached is_single Behind s items = Fine is_single s × (is_single ≡ true → length (files_of s) ≡ 1) × (items ≡ (front s.version s.names ++ body s.names (files_of s)) ++ LeaveBlock ∷ [])
 
 -- ---- lists of items that grow by one
 

@@ -3,7 +3,7 @@ use Rattle.std.proofs.Common.{◌≡◌, ℕ, ◌+◌, ◌<◌, ◌≤◌, List,
 use Rattle.std.specs.List.{flat_map}
 use Rattle.std.proofs.Math.Seq.{take_all}
 use Rattle.std.proofs.lemmas.List.{append-nil, map-append}
-use Rattle.bitstream.specs.Reading.{Seen, Enters, Leaves, Record}
+use Rattle.bitstream.specs.Reading.{Seen, Enters, LeaveBlock, Record}
 use Rattle.bitstream.specs.Writer.{Writing}
 use Rattle.bitstream.specs.Written.{HasWritten}
 use Rattle.dep_key.specs.declared.graph.FileGraph.{FileGraph}
@@ -36,7 +36,7 @@ whole_flat {A} f l i s t h a = subst (λ (x : List A). AlsoShows (flat_map f x) 
 
 -- the whole block
 pub block_shown : (version : ℕ) (names : List (List ℕ)) (files : List FileGraph) (a b c d e : Writing) → Shows (Enters 8 ∷ []) a → AlsoShows (Record 1 (version ∷ []) None ∷ []) a b → AlsoShows (map identifier_item names) b c
-    → AlsoShows (flat_map (file_items names) files) c d → AlsoShows (Leaves ∷ []) d e → Shows (spelling version names files) e
+    → AlsoShows (flat_map (file_items names) files) c d → AlsoShows (LeaveBlock ∷ []) d e → Shows (spelling version names files) e
 block_shown version names files a b c d e begun header identifiers graphs left =
     let all = left _ (graphs _ (identifiers _ (header (Enters 8 ∷ []) begun))) in
-    subst (λ (x : List Seen). Shows x e) (append_assoc (Enters 8 ∷ Record 1 (version ∷ []) None ∷ map identifier_item names) (flat_map (file_items names) files) (Leaves ∷ [])) all
+    subst (λ (x : List Seen). Shows x e) (append_assoc (Enters 8 ∷ Record 1 (version ∷ []) None ∷ map identifier_item names) (flat_map (file_items names) files) (LeaveBlock ∷ [])) all

@@ -4,7 +4,7 @@ use Rattle.std.specs.Prelude.{IsTrue, codes}
 use Rattle.std.specs.Cmp.Lexicographic.{pointwise, bytes_decides}
 use Rattle.std.proofs.lemmas.Bool.{eqb-true}
 use Rattle.std.proofs.lemmas.List.{take-append-drop, append-nil}
-use Rattle.bitstream.specs.Reading.{Seen, Enters, Leaves, Record, Ends}
+use Rattle.bitstream.specs.Reading.{Seen, Enters, LeaveBlock, Record, Ends}
 use Rattle.bitstream.specs.Items.{items_in}
 use Rattle.bitstream.specs.declared.item.BitFault.{BitFault}
 use Rattle.dep_key.specs.declared.graph.FileGraph.{FileGraph}
@@ -42,7 +42,7 @@ record_step one at code ops blob s t before r =
 
 pub item_step : (one : Bool) (at : ℕ) (item : Seen) (s t : State) (before : List Seen) → Reached one s.stage s before → item_at one at item s ≡ Ok t → Reached one t.stage t (before ++ item ∷ [])
 item_step one at (Enters block) s t before r e = block_step one at block s t before r e
-item_step one at Leaves s t before r e = leave_step one at s t before r e
+item_step one at LeaveBlock s t before r e = leave_step one at s t before r e
 item_step one at (Record code ops blob) s t before r e = record_step one at code ops blob s t before r e
 item_step one at Ends s t before r e = absurd cc
 
@@ -67,7 +67,7 @@ ends_read one bits (Some d) s before x r e = absurd cc
 ends_read one bits None s before x r e =
     let g = guard_ok (is_behind s.stage) (Ok (s.version, files_of s)) (faults.RecordOrder bits) x e in
     let here : Reached one Behind s before = subst (λ (y : Stage). Reached one y s before) (at_behind s.stage g.0) r in
-    let items = here.2 ∙ append_assoc (front s.version s.names) (body s.names (files_of s)) (Leaves ∷ []) in
+    let items = here.2 ∙ append_assoc (front s.version s.names) (body s.names (files_of s)) (LeaveBlock ∷ []) in
     let fine = here.0 in
     let spelled : Spell s.version (files_of s) before = record { names = s.names; are_identifiers = fine.names; are_files = fine.files; spelled = items } in
     let made : ItemsRead one None (s.version, files_of s) before = record { whole = refl; spelled = spelled; version = fine.version; single = here.1 } in

@@ -9,7 +9,7 @@ use Rattle.std.specs.List.Sorted.{IsStrictlySortedBy}
 use Rattle.dep_key.specs.declared.key.Key.{Key}
 use Rattle.dep_key.specs.declared.graph.Node.{Node}
 use Rattle.dep_key.specs.declared.graph.FileGraph.{FileGraph}
-use Rattle.dep_key.specs.KeyOrder.{has_shape}
+use Rattle.dep_key.specs.KeyShapes.{has_shape}
 use Rattle.swiftdeps.specs.Spelling.{place_of, HasNumber, AreIdentifiers, IsIdentifier, IsSpelledKey, IsSpelledNode, IsSpelledFile, BytesSpell, seen_items}
 use Rattle.swiftdeps.specs.Written.{key_texts, node_texts, file_texts, texts_in, AreNamesOf, is_shaped, IsWritable, AreWritable}
 use Rattle.swiftdeps.specs.Shown.{StandsForSpelling, AreUtf8}

@@ -6,11 +6,11 @@ use Rattle.std.specs.Str.{is_utf8}
 use Rattle.std.proofs.lemmas.Bool.{eqb-true}
 use Rattle.std.proofs.lemmas.List.{append-nil, map-append}
 use Rattle.std.proofs.lemmas.Str.{IsUtf8-from_is_utf8}
-use Rattle.bitstream.specs.Reading.{Seen, Enters, Leaves, Record}
+use Rattle.bitstream.specs.Reading.{Seen, Enters, LeaveBlock, Record}
 use Rattle.dep_key.specs.declared.key.Key.{Key}
 use Rattle.dep_key.specs.declared.graph.Node.{Node}
 use Rattle.dep_key.specs.declared.graph.FileGraph.{FileGraph}
-use Rattle.dep_key.specs.KeyOrder.{is_filled}
+use Rattle.dep_key.specs.KeyShapes.{is_filled}
 use Rattle.dep_key.specs.GraphOrder.{AreAscending, AreInOrder, keys_of}
 use Rattle.swiftdeps.specs.declared.fault.DepsFault.TheVariants as faults
 use Rattle.swiftdeps.specs.declared.stage.Stage.{Stage}
@@ -419,11 +419,11 @@ end_due one Behind s before r e = absurd (not_due one e)
     not_due true e = cc
     not_due false e = cc
 
-pub leave_step : (one : Bool) (at : ℕ) (s t : State) (before : List Seen) → Reached one s.stage s before → leave_at one at s ≡ Ok t → Reached one t.stage t (before ++ Leaves ∷ [])
+pub leave_step : (one : Bool) (at : ℕ) (s t : State) (before : List Seen) → Reached one s.stage s before → leave_at one at s ≡ Ok t → Reached one t.stage t (before ++ LeaveBlock ∷ [])
 unfolding leave_at
 leave_step one at s t before r e =
     let new : State = record s { stage = Behind } in
     let g = guard_ok (may_end one s.stage) (Ok new) (faults.RecordOrder at) t e in
     let due = end_due one s.stage s before r g.0 in
-    let made : Reached one Behind new (before ++ Leaves ∷ []) = (record { version = due.0.version; names = due.0.names; files = due.0.files }, due.1, ap (λ (x : List Seen). x ++ Leaves ∷ []) due.2) in
-    subst (λ (x : State). Reached one x.stage x (before ++ Leaves ∷ [])) (ok_is new t g.1) made
+    let made : Reached one Behind new (before ++ LeaveBlock ∷ []) = (record { version = due.0.version; names = due.0.names; files = due.0.files }, due.1, ap (λ (x : List Seen). x ++ LeaveBlock ∷ []) due.2) in
+    subst (λ (x : State). Reached one x.stage x (before ++ LeaveBlock ∷ [])) (ok_is new t g.1) made

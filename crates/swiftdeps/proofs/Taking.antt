@@ -7,7 +7,8 @@ use Rattle.dep_key.specs.declared.kind.Kind.TheVariants.{TopLevel, Nominal, Pote
 use Rattle.dep_key.specs.declared.kind.Aspect.{Aspect}
 use Rattle.dep_key.specs.declared.kind.Aspect.TheVariants.{Interface, Implementation}
 use Rattle.dep_key.specs.declared.key.Key.{Key}
-use Rattle.dep_key.specs.KeyOrder.{kind_at, kind_number, aspect_at, aspect_number, has_shape}
+use Rattle.dep_key.specs.KeyOrder.{kind_at, kind_number, aspect_at, aspect_number}
+use Rattle.dep_key.specs.KeyShapes.{has_shape}
 use Rattle.swiftdeps.specs.declared.fault.DepsFault.{DepsFault}
 use Rattle.swiftdeps.specs.declared.fault.DepsFault.TheVariants as faults
 use Rattle.swiftdeps.specs.Judging.{◌>>=◌, or_fault, text_at, text_of, key_of, key_in, blob_alone}

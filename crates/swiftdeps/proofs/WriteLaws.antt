@@ -8,7 +8,7 @@ use Rattle.std.proofs.lemmas.Grind.{flat_map-append}
 use Rattle.std.specs.declared.string.String.{String}
 use Rattle.std.specs.String.{string_bytes}
 use Rattle.bitstream.specs.Reading.{Seen, Record}
-use Rattle.bitstream.specs.Writer.{Writing, Leaves}
+use Rattle.bitstream.specs.Writer.{Writing, EndsBlock}
 use Rattle.dep_key.specs.declared.graph.FileGraph.{FileGraph}
 use Rattle.swiftdeps.specs.Spelling.{identifier_item, file_items}
 use Rattle.swiftdeps.specs.Written.{item_bits, items_bits, with_items, InBlock, records, begun_block}
@@ -59,8 +59,8 @@ named_is (text ∷ texts) = ap (λ (items : List Seen). named text ∷ items) (n
 
 -- the whole block
 pub block_written : (version : ℕ) (names : List (List ℕ)) (files : List FileGraph) (a b c d e : Writing) → a ≡ begun_block → b ≡ with_items (Record 1 (version ∷ []) None ∷ []) a → c ≡ with_items (map identifier_item names) b
-    → d ≡ with_items (flat_map (file_items names) files) c → Leaves d e → Leaves (with_items (records version names files) begun_block) e
+    → d ≡ with_items (flat_map (file_items names) files) c → EndsBlock d e → EndsBlock (with_items (records version names files) begun_block) e
 block_written version names files a b c d e begun header identifiers graphs left =
     let first = goes_on (Record 1 (version ∷ []) None ∷ []) (map identifier_item names) a b c header identifiers in
     let all = goes_on (Record 1 (version ∷ []) None ∷ map identifier_item names) (flat_map (file_items names) files) a c d first graphs in
-    subst (λ (w : Writing). Leaves w e) (all ∙ ap (with_items (records version names files)) begun) left
+    subst (λ (w : Writing). EndsBlock w e) (all ∙ ap (with_items (records version names files)) begun) left

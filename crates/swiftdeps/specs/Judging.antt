@@ -5,12 +5,14 @@ use Rattle.std.specs.Cmp.Lexicographic.{slice_cmp, pointwise}
 use Rattle.std.specs.Str.{is_utf8}
 use Rattle.std.specs.Borrow.{Bor}
 use Rattle.std.specs.Global.{Vec}
-use Rattle.bitstream.specs.Reading.{Seen, Enters, Leaves, Record, Ends}
+use Rattle.bitstream.specs.Reading.{Seen, Enters, LeaveBlock, Record, Ends}
 use Rattle.bitstream.specs.declared.item.BitFault.{BitFault}
 use Rattle.dep_key.specs.declared.key.Key.{Key}
 use Rattle.dep_key.specs.declared.graph.Node.{Node}
 use Rattle.dep_key.specs.declared.graph.FileGraph.{FileGraph}
-use Rattle.dep_key.specs.KeyOrder.{kind_at, aspect_at, key_order, has_shape, is_filled}
+use Rattle.dep_key.specs.KeyOrder.{kind_at, aspect_at, key_order}
+use Rattle.dep_key.specs.KeyShapes.{has_shape, is_filled}
+use Rattle.swiftdeps.specs.declared.codes.TheConstants.{RECORD_BLOCK_ID, METADATA, NODE, FINGERPRINT, USE, IDENTIFIER, FILE}
 use Rattle.swiftdeps.specs.declared.fault.DepsFault.{DepsFault}
 use Rattle.swiftdeps.specs.declared.fault.DepsFault.TheVariants as faults
 use Rattle.swiftdeps.specs.declared.fault.Stop.{Stop}
@@ -125,7 +127,7 @@ abbrev pub closed_file : State → State
 closed_file s = record s { files = files_of s; path = None; nodes = []; key = None; print = []; uses = [] }
 
 unfoldable pub block_at : ℕ → ℕ → State → Result State DepsFault
-block_at at block s = if takes_block s.stage && block == 8 then Ok (record s { stage = Version }) else Err (faults.RecordOrder at)
+block_at at block s = if takes_block s.stage && block == RECORD_BLOCK_ID then Ok (record s { stage = Version }) else Err (faults.RecordOrder at)
 
 unfoldable pub version_at : Bool → ℕ → List ℕ → Option (List ℕ) → State → Result State DepsFault
 version_at is_single at ops blob s =
@@ -196,14 +198,14 @@ leave_at is_single at s = if may_end is_single s.stage then Ok (record s { stage
 
 unfoldable pub record_at : Bool → ℕ → ℕ → List ℕ → Option (List ℕ) → State → Result State DepsFault
 record_at is_single at code ops blob s =
-    if code == 1 then version_at is_single at ops blob s else if code == 2 then node_at at ops blob s else if code == 3 then print_at at ops blob s
-    else if code == 4 then use_at at ops blob s else if code == 5 then identifier_at at ops blob s else if code == 6 then file_at is_single at ops blob s
+    if code == METADATA then version_at is_single at ops blob s else if code == NODE then node_at at ops blob s else if code == FINGERPRINT then print_at at ops blob s
+    else if code == USE then use_at at ops blob s else if code == IDENTIFIER then identifier_at at ops blob s else if code == FILE then file_at is_single at ops blob s
     else Err (faults.RecordOrder at)
 
 -- An item at a bit: what was read with it, or its fault.
 abbrev pub item_at : Bool → ℕ → Seen → State → Result State DepsFault
 item_at is_single at (Enters block) s = block_at at block s
-item_at is_single at Leaves s = leave_at is_single at s
+item_at is_single at LeaveBlock s = leave_at is_single at s
 item_at is_single at (Record code ops blob) s = record_at is_single at code ops blob s
 item_at is_single at Ends s = Err (faults.RecordOrder at)
 

@@ -1,16 +1,18 @@
 -- Which items spell a list of file graphs.
-use Rattle.std.specs.Prelude.{◌≡◌, ℕ, suc, ◌≤◌, IsTrue, if◌then◌else◌, List, [], ◌∷◌, ◌++◌, length, map, codes, Some, None, nat_eq, IsUtf8}
+use Rattle.std.specs.Prelude.{◌≡◌, ℕ, suc, ◌≤◌, IsTrue, if◌then◌else◌, List, [], ◌∷◌, ◌++◌, length, map, Some, None, nat_eq, IsUtf8}
 use Rattle.std.specs.List.{flat_map, AllByRecursion}
 use Rattle.std.specs.List.Sorted.{IsStrictlySortedBy}
 use Rattle.std.specs.Ordering.{nat_cmp}
 use Rattle.std.specs.Cmp.Lexicographic.{slice_cmp, pointwise}
-use Rattle.bitstream.specs.Reading.{Seen, Enters, Leaves, Record}
+use Rattle.bitstream.specs.Reading.{Seen, Enters, LeaveBlock, Record}
 use Rattle.bitstream.specs.Items.{items_in}
 use Rattle.dep_key.specs.declared.key.Key.{Key}
 use Rattle.dep_key.specs.declared.graph.Node.{Node}
 use Rattle.dep_key.specs.declared.graph.FileGraph.{FileGraph}
-use Rattle.dep_key.specs.KeyOrder.{kind_number, aspect_number, has_shape, is_filled}
+use Rattle.dep_key.specs.KeyOrder.{kind_number, aspect_number}
+use Rattle.dep_key.specs.KeyShapes.{has_shape, is_filled}
 use Rattle.dep_key.specs.GraphOrder.{AreInOrder}
+use Rattle.swiftdeps.specs.declared.codes.TheConstants.{SIGNATURE, RECORD_BLOCK_ID, METADATA, NODE, FINGERPRINT, USE, IDENTIFIER, FILE}
 
 -- where a text stands among the identifiers, and how many there are where it isn't one of them
 abbrev pub place_of : List (List ℕ) → List ℕ → ℕ
@@ -25,28 +27,28 @@ number_of names (b ∷ bs) = suc (place_of names (b ∷ bs))
 abbrev pub key_numbers : List (List ℕ) → Key → List ℕ
 key_numbers names key = kind_number key.kind ∷ aspect_number key.aspect ∷ number_of names key.context ∷ number_of names key.name ∷ []
 
--- USE is code 4, NODE 2, FINGERPRINT 3, IDENTIFIER 5, FILE 6 and METADATA 1.
+-- A use is the record of its key.
 abbrev pub use_item : List (List ℕ) → Key → Seen
-use_item names key = Record 4 (key_numbers names key) None
+use_item names key = Record USE (key_numbers names key) None
 
 abbrev pub print_item : List ℕ → Seen
-print_item print = Record 3 [] (Some print)
+print_item print = Record FINGERPRINT [] (Some print)
 
 -- A node is a NODE, its FINGERPRINT and its USEs.
 abbrev pub node_items : List (List ℕ) → Node → List Seen
-node_items names node = Record 2 (key_numbers names node.key) None ∷ print_item node.print ∷ map (use_item names) node.uses
+node_items names node = Record NODE (key_numbers names node.key) None ∷ print_item node.print ∷ map (use_item names) node.uses
 
 -- A file is a FILE and its nodes.
 abbrev pub file_items : List (List ℕ) → FileGraph → List Seen
-file_items names file = Record 6 (number_of names file.path ∷ []) None ∷ flat_map (node_items names) file.nodes
+file_items names file = Record FILE (number_of names file.path ∷ []) None ∷ flat_map (node_items names) file.nodes
 
 abbrev pub identifier_item : List ℕ → Seen
-identifier_item text = Record 5 [] (Some text)
+identifier_item text = Record IDENTIFIER [] (Some text)
 
--- Block 8 has METADATA, the identifiers and the files.
+-- The block has METADATA, the identifiers and the files.
 abbrev pub spelling : ℕ → List (List ℕ) → List FileGraph → List Seen
 spelling version names files =
-    (Enters 8 ∷ Record 1 (version ∷ []) None ∷ map identifier_item names) ++ (flat_map (file_items names) files ++ Leaves ∷ [])
+    (Enters RECORD_BLOCK_ID ∷ Record METADATA (version ∷ []) None ∷ map identifier_item names) ++ (flat_map (file_items names) files ++ LeaveBlock ∷ [])
 
 -- texts, each below those after it
 abbrev pub AreAscendingTexts : List (List ℕ) → Type 0
@@ -100,6 +102,6 @@ seen_items items = map (λ item. item.1) items
 -- Bytes spell a version and file graphs: they are the signature and a bitstream whose items do.
 pub record BytesSpell (version : ℕ) (files : List FileGraph) (bytes : List ℕ) : Type 0 where
   pub stream : List ℕ
-  pub signed : bytes ≡ codes "DEPS" ++ stream
+  pub signed : bytes ≡ SIGNATURE ++ stream
   pub whole : (items_in stream).1 ≡ None
   pub items : Spell version files (seen_items (items_in stream).0)

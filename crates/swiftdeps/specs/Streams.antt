@@ -1,8 +1,9 @@
 -- What a bitstream holds, or its first fault.
-use Rattle.std.specs.Prelude.{ℕ, ◌*◌, Bool, List, length, take, drop, codes, nat_eq, nat_lt, if◌then◌else◌, Option, Some, None, Result, Err}
+use Rattle.std.specs.Prelude.{ℕ, ◌*◌, Bool, List, length, take, drop, nat_eq, nat_lt, if◌then◌else◌, Option, Some, None, Result, Err}
 use Rattle.std.specs.Cmp.Lexicographic.{pointwise}
 use Rattle.bitstream.specs.Items.{items_in}
 use Rattle.dep_key.specs.declared.graph.FileGraph.{FileGraph}
+use Rattle.swiftdeps.specs.declared.codes.TheConstants.{SIGNATURE, SIGNATURE_BYTES}
 use Rattle.swiftdeps.specs.declared.fault.DepsFault.{DepsFault}
 use Rattle.swiftdeps.specs.declared.fault.DepsFault.TheVariants.{Signature}
 use Rattle.swiftdeps.specs.Judging.{nothing_read, items_judged}
@@ -13,7 +14,7 @@ stream_judged is_single bytes = items_judged is_single (8 * length bytes) (items
 
 -- What stands behind the signature, where that is there.
 abbrev pub stream_of : List ℕ → Option (List ℕ)
-stream_of bytes = if nat_lt (length bytes) 4 then None else if pointwise nat_eq (take 4 bytes) (codes "DEPS") then Some (drop 4 bytes) else None
+stream_of bytes = if nat_lt (length bytes) SIGNATURE_BYTES then None else if pointwise nat_eq (take SIGNATURE_BYTES bytes) SIGNATURE then Some (drop SIGNATURE_BYTES bytes) else None
 
 abbrev pub signed_judged : Bool → Option (List ℕ) → Result (ℕ × List FileGraph) DepsFault
 signed_judged is_single (Some stream) = stream_judged is_single stream

@@ -1,18 +1,19 @@
 -- The one spelling that is written.
-use Rattle.std.specs.Prelude.{◌≡◌, ◌↔◌, ◌⊎◌, ℕ, ◌==◌, ◌&&◌, if◌then◌else◌, Bool, IsTrue, List, [], ◌∷◌, ◌++◌, length, map, codes, Some, None}
+use Rattle.std.specs.Prelude.{◌≡◌, ◌↔◌, ◌⊎◌, ℕ, ◌==◌, ◌&&◌, if◌then◌else◌, Bool, IsTrue, List, [], ◌∷◌, ◌++◌, length, map, Some, None}
 use Rattle.std.specs.List.{flat_map, list_all, Contains, AllByRecursion}
 use Rattle.bitstream.specs.declared.item.AbbrevOp.{AbbrevOp}
 use Rattle.bitstream.specs.declared.item.AbbrevOp.TheVariants.{Literal, Blob}
 use Rattle.bitstream.specs.Bits.{bits_of}
 use Rattle.bitstream.specs.Entries.{record_bits, blob_bits}
-use Rattle.bitstream.specs.Reading.{Seen, Enters, Leaves, Record, Ends}
+use Rattle.bitstream.specs.Reading.{Seen, Enters, LeaveBlock, Record, Ends}
 use Rattle.bitstream.specs.Writer.{Writing, nothing_written, entered, defined}
 use Rattle.bitstream.specs.Writer as writer
 use Rattle.dep_key.specs.declared.key.Key.{Key}
 use Rattle.dep_key.specs.declared.graph.Node.{Node}
 use Rattle.dep_key.specs.declared.graph.FileGraph.{FileGraph}
-use Rattle.dep_key.specs.KeyOrder.{is_filled, has_shape}
+use Rattle.dep_key.specs.KeyShapes.{is_filled, has_shape}
 use Rattle.dep_key.specs.GraphOrder.{AreInOrder}
+use Rattle.swiftdeps.specs.declared.codes.TheConstants.{SIGNATURE, RECORD_BLOCK_ID, ID_WIDTH, IDENTIFIER_ABBREV, FINGERPRINT_ABBREV, METADATA, FINGERPRINT, IDENTIFIER}
 use Rattle.swiftdeps.specs.Spelling.{AreAscendingTexts, identifier_item, file_items, paths_of}
 
 -- ---- the identifiers in use
@@ -41,14 +42,14 @@ pub record AreNamesOf (files : List FileGraph) (names : List (List ℕ)) : Type 
 
 -- ---- the bits
 
--- An IDENTIFIER is written by the abbreviation 4, and a FINGERPRINT by 5.
+-- Each of the two records with a blob has its abbreviation.
 abbrev pub abbreviation_of : ℕ → ℕ
-abbreviation_of code = if code == 5 then 4 else 5
+abbreviation_of code = if code == IDENTIFIER then IDENTIFIER_ABBREV else FINGERPRINT_ABBREV
 
 -- a record with a blob by its abbreviation, and any other without one
 abbrev pub item_bits : ℕ → Seen → List Bool → List Bool
 item_bits width (Enters block) before = before
-item_bits width Leaves before = before
+item_bits width LeaveBlock before = before
 item_bits width (Record code ops None) before = record_bits width code ops before
 item_bits width (Record code ops (Some blob)) before = blob_bits width (abbreviation_of code) blob before
 item_bits width Ends before = before
@@ -60,39 +61,39 @@ items_bits width (item ∷ items) before = items_bits width items (item_bits wid
 abbrev pub with_items : List Seen → Writing → Writing
 with_items items s = record s { bits = items_bits s.width items s.bits }
 
--- Block 8 has ids of 4 bits, and two abbreviations: of the literal 5 and a blob, and of the literal 3 and a blob.
+-- The block has two abbreviations, each of the code and a blob: of IDENTIFIER, and of FINGERPRINT.
 abbrev pub identifier_ops : List AbbrevOp
-identifier_ops = Literal 5 ∷ Blob ∷ []
+identifier_ops = Literal IDENTIFIER ∷ Blob ∷ []
 
 abbrev pub print_ops : List AbbrevOp
-print_ops = Literal 3 ∷ Blob ∷ []
+print_ops = Literal FINGERPRINT ∷ Blob ∷ []
 
 abbrev pub begun_block : Writing
-begun_block = defined print_ops (defined identifier_ops (entered 8 4 nothing_written))
+begun_block = defined print_ops (defined identifier_ops (entered RECORD_BLOCK_ID ID_WIDTH nothing_written))
 
 -- METADATA, the identifiers, and the files
 abbrev pub records : ℕ → List (List ℕ) → List FileGraph → List Seen
-records version names files = Record 1 (version ∷ []) None ∷ (map identifier_item names ++ flat_map (file_items names) files)
+records version names files = Record METADATA (version ∷ []) None ∷ (map identifier_item names ++ flat_map (file_items names) files)
 
 -- The bytes have the bits of the block, with all records, to its end.
 pub record IsStream (version : ℕ) (files : List FileGraph) (stream : List ℕ) : Type 0 where
   pub names : List (List ℕ)
   pub are_names : AreNamesOf files names
   pub ended : Writing
-  pub block : writer.Leaves (with_items (records version names files) begun_block) ended
+  pub block : writer.EndsBlock (with_items (records version names files) begun_block) ended
   pub bits : bits_of stream ≡ ended.bits
 
 -- The bytes are the signature, and those of the block.
 pub record IsWritten (version : ℕ) (files : List FileGraph) (bytes : List ℕ) : Type 0 where
   pub stream : List ℕ
-  pub signed : bytes ≡ codes "DEPS" ++ stream
+  pub signed : bytes ≡ SIGNATURE ++ stream
   pub is_stream : IsStream version files stream
 
 -- ---- inside the block
 
 -- what is written here is inside the block, where its two abbreviations are known
 pub record InBlock (s : Writing) : Type 0 where
-  pub width : s.width ≡ 4
+  pub width : s.width ≡ ID_WIDTH
   pub abbrevs : s.abbrevs ≡ identifier_ops ∷ print_ops ∷ []
   pub first : s.first ≡ 0
   pub blocks : length s.blocks ≡ 1

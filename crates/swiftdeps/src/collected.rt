@@ -7,6 +7,7 @@ ghost use Rattle.bitstream.specs.Reading.{seen};
 ghost use Rattle.swiftdeps.specs.Judging.{Gives, Moves, utf8_text, seen_blob, seen_files, closed_node, closed_file, is_same_text, end_at, nothing_read, block_at, version_at, identifier_at, blob_alone, identifier_of, file_at, file_of, begun, node_at, with_node, print_at, use_at, leave_at, record_at, item_at, nodes_of, files_of, is_above_key, is_above_text};
 ghost use Rattle.swiftdeps.specs.Collected.{state};
 
+use crate::codes::{FILE, FINGERPRINT, IDENTIFIER, METADATA, NODE, RECORD_BLOCK_ID, USE};
 use crate::fault::{DepsFault, Stop};
 use crate::identifiers::Identifiers;
 use crate::keys::key_in;
@@ -128,7 +129,7 @@ impl Collected {
     fn take_block(&mut self, at: u128, block: u32) -> Result<(), Stop>
         ensures { Moves (state self.new) result (block_at at block (state self.old)) }
     {
-        if !self.stage.takes_block() || block != 8 {
+        if !self.stage.takes_block() || block != RECORD_BLOCK_ID {
             return Err(Stop::Fault(DepsFault::RecordOrder { at }));
         }
         self.stage = Stage::Version;
@@ -319,31 +320,30 @@ impl Collected {
         ensures { Moves (state self.new) result (record_at is_single at code ops.now (slice_seen blob.entry) (state self.old)) }
     {
         match code {
-            1 => self.take_version(is_single, at, ops, blob),
-            2 => self.take_node(at, ops, blob),
-            3 => self.take_print(at, ops, blob),
-            4 => self.take_use(at, ops, blob),
-            5 => self.take_identifier(at, ops, blob),
-            6 => self.take_file(is_single, at, ops, blob),
+            METADATA => self.take_version(is_single, at, ops, blob),
+            NODE => self.take_node(at, ops, blob),
+            FINGERPRINT => self.take_print(at, ops, blob),
+            USE => self.take_use(at, ops, blob),
+            IDENTIFIER => self.take_identifier(at, ops, blob),
+            FILE => self.take_file(is_single, at, ops, blob),
             _ => Err(Stop::Fault(DepsFault::RecordOrder { at })),
         }
     }
 
     /// Takes the item that begins at a bit.
     #[inline(always)]
+    #[tactic(auto, using(crate::proofs::LongLaws::long_record))]
     pub fn take(&mut self, is_single: bool, at: u128, item: &Item<'_>) -> Result<(), Stop>
         ensures { Moves (state self.new) result (item_at is_single at (seen item.now) (state self.old)) }
     {
         match item {
             Item::Enter { block } => self.take_block(at, *block),
             Item::Leave => self.take_leave(is_single, at),
-            Item::Rec { code, ops, blob } => self.take_record(
-                is_single,
-                at,
-                *code,
-                ops.as_slice(),
-                *blob,
-            ),
+            Item::Rec { code, ops, blob } => match ops.as_slice() {
+                Some(ops) => self.take_record(is_single, at, *code, ops, *blob),
+                // No record has so many operands.
+                None => Err(Stop::Fault(DepsFault::RecordOrder { at })),
+            },
             Item::End => Err(Stop::Fault(DepsFault::RecordOrder { at })),
         }
     }

@@ -4,6 +4,7 @@
 //! each file its path, its nodes, their fingerprints and their uses.
 #![tactic(auto)]
 
+pub mod codes;
 mod collected;
 mod fault;
 mod identifiers;
@@ -23,6 +24,3 @@ pub use laws::bytes_spell_one_list;
 pub use reading::{decode, read_all};
 pub use shapes::is_writable;
 pub use writing::{encode, encode_all};
-
-#[cfg(test)]
-mod tests;

@@ -11,6 +11,7 @@ ghost use Rattle.swiftdeps.specs.Spelling.{BytesSpell};
 ghost use Rattle.swiftdeps.specs.Stages.{is_version};
 ghost use Rattle.swiftdeps.specs.Streams.{stream_of, bytes_judged};
 
+use crate::codes::{SIGNATURE, SIGNATURE_BYTES};
 use crate::fault::{DepsFault, Header, Stop};
 use crate::stream::read;
 use dep_key::FileGraph;
@@ -20,11 +21,11 @@ use std::alloc::Global;
 fn stream_of(bytes: &[u8]) -> Option<&[u8]>
     ensures { option_copied result ≡ stream_of bytes.now }
 {
-    if bytes.len() < 4 {
+    if bytes.len() < SIGNATURE_BYTES {
         return None;
     }
-    let (front, stream) = bytes.split_at(4);
-    if front == b"DEPS".as_slice() {
+    let (front, stream) = bytes.split_at(SIGNATURE_BYTES);
+    if front == SIGNATURE.as_slice() {
         Some(stream)
     } else {
         None

@@ -2,7 +2,7 @@
 
 ghost use Rattle.std.specs.Prelude.{◌≡◌, ◌↔◌, IsTrue};
 ghost use Rattle.std.specs.List.{list_all};
-ghost use Rattle.dep_key.specs.KeyOrder.{has_shape};
+ghost use Rattle.dep_key.specs.KeyShapes.{has_shape};
 ghost use Rattle.swiftdeps.specs.Written.{is_shaped, IsWritable};
 
 use dep_key::{FileGraph, Key, Node};

@@ -4,11 +4,16 @@ ghost use Rattle.std.specs.Prelude.{◌≡◌, ◌∷◌, [], OnOk, IfOk, Some, 
 ghost use Rattle.std.specs.List.{flat_map};
 ghost use Rattle.bitstream.specs.Reading.{Record, Enters};
 ghost use Rattle.bitstream.specs.Writer.{writing};
+ghost use Rattle.swiftdeps.specs.declared.codes.TheConstants.{RECORD_BLOCK_ID, FINGERPRINT, IDENTIFIER};
 ghost use Rattle.swiftdeps.specs.Stages.{is_version};
 ghost use Rattle.swiftdeps.specs.Spelling.{BytesSpell, key_numbers, node_items, file_items, identifier_item};
 ghost use Rattle.swiftdeps.specs.Shown.{Shows, AlsoShows, StandsForSpelling};
 ghost use Rattle.swiftdeps.specs.Written.{InBlock, IsStream, IsWritten, IsWritable, AreWritable, with_items, records, begun_block};
 
+use crate::codes::{
+    FILE, FINGERPRINT, FINGERPRINT_ABBREV, ID_WIDTH, IDENTIFIER, IDENTIFIER_ABBREV, METADATA, NODE,
+    RECORD_BLOCK_ID, SIGNATURE, USE,
+};
 use crate::fault::{DEPENDENCIES_VERSION, Header};
 use crate::names::{Names, names_in};
 use crate::utf8::utf8_files;
@@ -33,20 +38,20 @@ fn put_key(writer: &mut BitWriter, code: u64, names: &Names, key: &Key) -> Resul
 /// Writes an identifier.
 fn put_identifier(writer: &mut BitWriter, text: &str) -> Result<(), NoMemory>
     requires { InBlock (writing writer.old) }
-    ensures written { OnOk result (writing writer.new ≡ with_items (Record 5 [] (Some text.now) ∷ []) (writing writer.old)) }
-    ensures shown { OnOk result (AlsoShows (Record 5 [] (Some text.now) ∷ []) (writing writer.old) (writing writer.new)) }
+    ensures written { OnOk result (writing writer.new ≡ with_items (Record IDENTIFIER [] (Some text.now) ∷ []) (writing writer.old)) }
+    ensures shown { OnOk result (AlsoShows (Record IDENTIFIER [] (Some text.now) ∷ []) (writing writer.old) (writing writer.new)) }
 {
-    writer.put_blob(4, text.as_bytes())?;
+    writer.put_blob(IDENTIFIER_ABBREV, text.as_bytes())?;
     Ok(())
 }
 
 /// Writes the fingerprint of a node.
 fn put_print(writer: &mut BitWriter, print: &[u8]) -> Result<(), NoMemory>
     requires { InBlock (writing writer.old) }
-    ensures written { OnOk result (writing writer.new ≡ with_items (Record 3 [] (Some print.now) ∷ []) (writing writer.old)) }
-    ensures shown { OnOk result (AlsoShows (Record 3 [] (Some print.now) ∷ []) (writing writer.old) (writing writer.new)) }
+    ensures written { OnOk result (writing writer.new ≡ with_items (Record FINGERPRINT [] (Some print.now) ∷ []) (writing writer.old)) }
+    ensures shown { OnOk result (AlsoShows (Record FINGERPRINT [] (Some print.now) ∷ []) (writing writer.old) (writing writer.new)) }
 {
-    writer.put_blob(5, print)?;
+    writer.put_blob(FINGERPRINT_ABBREV, print)?;
     Ok(())
 }
 
@@ -55,10 +60,10 @@ fn put_node(writer: &mut BitWriter, names: &Names, node: &Node) -> Result<(), No
     ensures written { OnOk result (writing writer.new ≡ with_items (node_items names.now node.now) (writing writer.old)) }
     ensures shown { OnOk result (AlsoShows (node_items names.now node.now) (writing writer.old) (writing writer.new)) }
 {
-    put_key(writer, 2, names, &node.key)?;
+    put_key(writer, NODE, names, &node.key)?;
     put_print(writer, node.print.as_slice())?;
     for key in node.uses.as_slice() {
-        put_key(writer, 4, names, key)?;
+        put_key(writer, USE, names, key)?;
     }
     Ok(())
 }
@@ -69,7 +74,7 @@ fn put_file(writer: &mut BitWriter, names: &Names, file: &FileGraph) -> Result<(
     ensures shown { OnOk result (AlsoShows (file_items names.now file.now) (writing writer.old) (writing writer.new)) }
 {
     let path = names.number_of(file.path.as_str());
-    writer.put_rec(6, &[path])?;
+    writer.put_rec(FILE, &[path])?;
     for node in file.nodes.as_slice() {
         put_node(writer, names, node)?;
     }
@@ -101,12 +106,12 @@ fn put_files(writer: &mut BitWriter, names: &Names, files: &[FileGraph]) -> Resu
 /// A writer inside the block, with its two abbreviations.
 fn begin(alloc: Global) -> Result<BitWriter, NoMemory>
     ensures written { IfOk result (λ writer. writing writer ≡ begun_block) }
-    ensures shown { IfOk result (λ writer. Shows (Enters 8 ∷ []) (writing writer)) }
+    ensures shown { IfOk result (λ writer. Shows (Enters RECORD_BLOCK_ID ∷ []) (writing writer)) }
 {
     let mut writer = BitWriter::new(alloc);
-    writer.enter(8, 4)?;
-    writer.define(&[AbbrevOp::Literal(5), AbbrevOp::Blob])?;
-    writer.define(&[AbbrevOp::Literal(3), AbbrevOp::Blob])?;
+    writer.enter(RECORD_BLOCK_ID, ID_WIDTH)?;
+    writer.define(&[AbbrevOp::Literal(IDENTIFIER), AbbrevOp::Blob])?;
+    writer.define(&[AbbrevOp::Literal(FINGERPRINT), AbbrevOp::Blob])?;
     Ok(writer)
 }
 
@@ -117,7 +122,7 @@ fn write_block(alloc: Global, version: u64, files: &[FileGraph]) -> Result<Vec<u
 {
     let names = names_in(alloc, files)?;
     let mut writer = begin(alloc)?;
-    writer.put_rec(1, &[version])?;
+    writer.put_rec(METADATA, &[version])?;
     put_identifiers(&mut writer, &names)?;
     put_files(&mut writer, &names, files)?;
     writer.leave()?;
@@ -130,7 +135,7 @@ fn write(alloc: Global, version: u64, files: &[FileGraph]) -> Result<Text, NoMem
 {
     utf8_files(files);
     let stream = write_block(alloc, version, files)?;
-    let mut bytes = Vec::from_slice(alloc, b"DEPS".as_slice())?;
+    let mut bytes = Vec::from_slice(alloc, SIGNATURE.as_slice())?;
     bytes.extend_from_slice(stream.as_slice())?;
     Ok(Text::from_vec(bytes))
 }

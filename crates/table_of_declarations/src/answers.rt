@@ -1,7 +1,7 @@
 //! Answers as they are printed.
 
 use decl_index::{DeclRef, Index, Key, Keys, declared_keys};
-use dep_key::{Aspect, Kind, Name};
+use dep_key::Name;
 use std::alloc::{AllocError, Global};
 use swift_ast::FileTree;
 use swift_parser::parse_file;
@@ -32,28 +32,6 @@ pub fn index_of(alloc: Global, files: &[(&str, &str)]) -> Result<Index, AllocErr
     }
 }
 
-fn shown_kind(kind: Kind) -> &'static str {
-    match kind {
-        Kind::TopLevel => "top-level",
-        Kind::Nominal => "nominal",
-        Kind::PotentialMember => "potential-member",
-        Kind::Member => "member",
-        Kind::DynamicLookup => "dynamic-lookup",
-        Kind::ExternalDepend => "external-depend",
-        Kind::SourceFileProvide => "source-file-provide",
-    }
-}
-
-fn shown_key(alloc: Global, key: &Key) -> Result<String, AllocError> {
-    let kind = shown_kind(key.kind);
-    let context = key.context.as_str();
-    let name = key.name.as_str();
-    if context.is_empty() || name.is_empty() {
-        return format!(in alloc; "{kind} {context}{name}");
-    }
-    format!(in alloc; "{kind} {context} {name}")
-}
-
 fn shown_references(alloc: Global, references: &[DeclRef]) -> Result<String, AllocError> {
     let mut shown = String::new(alloc);
     for at in references {
@@ -68,9 +46,8 @@ fn shown_references(alloc: Global, references: &[DeclRef]) -> Result<String, All
 
 // A key and the declarations that have it.
 fn shown_answer(alloc: Global, index: &Index, key: &Key) -> Result<String, AllocError> {
-    let name = shown_key(alloc, key)?;
     let found = shown_references(alloc, index.providers(key))?;
-    format!(in alloc; "{name}:{found}")
+    format!(in alloc; "{key}:{found}")
 }
 
 // A line for each key of a declaration.
@@ -105,13 +82,6 @@ pub fn shown_file(alloc: Global, index: &Index, file: &FileTree) -> Result<Strin
 
 /// The declarations that have a name at the top level.
 pub fn shown_providers(alloc: Global, index: &Index, name: &str) -> Result<String, AllocError> {
-    let context = Name::from_str(alloc, "")?;
-    let name = Name::from_str(alloc, name)?;
-    let key = Key {
-        kind: Kind::TopLevel,
-        aspect: Aspect::Interface,
-        context,
-        name,
-    };
+    let key = Key::top_level(Name::from_str(alloc, name)?);
     shown_answer(alloc, index, &key)
 }

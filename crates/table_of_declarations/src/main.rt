@@ -1,9 +1,9 @@
 //! Prints the keys of the declarations of some projects, and which declarations have each of them.
 //!
 //! A line has the path of a file, the number of a declaration in it, one of its keys, and the
-//! declarations of the project that have the key, each as the number of its file and its own. With a
-//! number as its one argument it makes the index of a project of so many files, looks up each of its
-//! keys, and prints how many providers they have together.
+//! declarations of the project that have the key, each as the number of its file and its own. Of a project
+//! of 2,000 files it prints how many providers all keys have together. With a number as its one argument
+//! it makes a project of so many files, and prints that alone.
 #![tactic(auto)]
 
 mod answers;
@@ -40,12 +40,22 @@ fn print_project<R: Print + AllocGlobal>(rt: &R, project: &Project) -> Result<()
     print_asked(rt, &index, project.asked)
 }
 
+/// How many files the project has that is made and not written down.
+const MADE_FILES: usize = 2_000;
+
+// Prints how many providers the keys of a project of many files have.
+fn print_made<R: Print + AllocGlobal>(rt: &R) -> Result<(), Error> {
+    let count = work::providers(rt.alloc(), MADE_FILES)?;
+    println!(rt; "# {MADE_FILES} files\n{count} providers")?;
+    Ok(())
+}
+
 // Prints the keys of the projects.
 fn print_table<R: Print + AllocGlobal>(rt: &R) -> Result<(), Error> {
     for project in &PROJECTS {
         print_project(rt, project)?;
     }
-    Ok(())
+    print_made(rt)
 }
 
 // The number that is the first argument; None where there is none.

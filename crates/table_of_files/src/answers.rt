@@ -1,5 +1,5 @@
 use crate::cases::Case;
-use build_record::{RecordEnd, decode};
+use build_record::{RecordEnd, decode, encode};
 use drv_outside::{MapFault, Path, RecordFault, Text, is_plain_path};
 use file_map::{MapEnd, Names, assign, read};
 use std::alloc::{AllocError, Global};
@@ -30,7 +30,8 @@ pub fn shown_case(alloc: Global, case: &Case) -> Result<String, AllocError> {
     format!(in alloc; "{front}{filler}*{count}{back}")
 }
 
-fn shown(text: &Text) -> &str {
+/// A text as it is printed, or `?` where it is no UTF-8.
+pub fn shown(text: &Text) -> &str {
     str::from_utf8(text.as_slice()).unwrap_or("?")
 }
 
@@ -109,12 +110,19 @@ fn record_fault(alloc: Global, fault: &RecordFault) -> Result<String, AllocError
     }
 }
 
-/// What `build_record::decode` answers to a text.
+/// What `build_record::decode` answers to a text, and the text that `encode` makes of the record again.
 pub fn record_answer(alloc: Global, text: &str) -> Result<String, AllocError> {
     match decode(alloc, text.as_bytes()) {
         Ok(record) => {
+            let Ok(text) = encode(alloc, &record) else {
+                return Err(AllocError);
+            };
             let files = record.files.len();
-            format!(in alloc; "a record of \"{}\", {files} files", shown(&record.module))
+            format!(in alloc;
+                "a record of \"{}\", {files} files: {}",
+                shown(&record.module),
+                shown(&text)
+            )
         }
         Err(RecordEnd::Fault(fault)) => record_fault(alloc, &fault),
         Err(RecordEnd::NoMemory) => Err(AllocError),

@@ -75,7 +75,7 @@ pub const LONG_MAPS: [Case; 4] = [
 ];
 
 /// Texts of build records.
-pub const RECORDS: [&str; 37] = [
+pub const RECORDS: [&str; 38] = [
     "",
     "{",
     "{\"version\":1}x",
@@ -113,6 +113,7 @@ pub const RECORDS: [&str; 37] = [
     "{\"files\":{\"a.swift\":{}},\"map\":null,\"module\":\"M\",\"version\":1}",
     "{\"files\":{\"b.swift\":1,\"a.swift\":1},\"map\":null,\"module\":\"M\",\"version\":1}",
     "{\"files\":{\"a.swift\":1,\"a.swift\":[1,0,12,\"clean\"]},\"map\":null,\"module\":\"M\",\"version\":1}",
+    "{\"files\":{\"a.swift\":[1,0,12,\"clean\"],\"b.swift\":[1,0,20,\"dirty\"],\"c.swift\":[1,0,31,\"clean\"]},\"map\":\"{\\\"\\\":{}}\\n\",\"module\":\"M\",\"version\":1}",
 ];
 
 /// Texts of output file maps, each with the path of the one source to which names are assigned.

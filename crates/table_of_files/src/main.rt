@@ -1,18 +1,25 @@
-//! Prints what `file_map` and `build_record` answer to a table of texts. With a number as its one
-//! argument it assigns names for so many files, writes and reads a record of them, makes an image of
-//! as many objects, and prints how long the texts are.
+//! Prints what `file_map`, `build_record` and `module_merge` answer to a table of texts, and then does the work for as
+//! many files as a build may have: it assigns their names, writes and reads a record of them, makes an
+//! image of as many objects, and prints how long the texts are. With a number as its one argument it
+//! does the work alone, for so many files.
 #![tactic(auto)]
 
 mod answers;
 mod cases;
+mod modules;
 mod order;
 mod work;
 
 use answers::{map_answer, names_answer, record_answer, shown_case, text_of};
 use anyhow::Error;
 use cases::{ASSIGNED, LONG_MAPS, MAPS, RECORDS};
+use modules::{IMAGES, PARTIALS, TEXTS, image_answer, kind_answer, module_answer};
 use std::env::FillError;
 use std::rt::Env;
+use work::lengths;
+
+/// The most source files of a build.
+const MOST_SOURCES: usize = 2000;
 
 // Prints the table.
 fn print_table<R: Print + AllocGlobal>(rt: &R) -> Result<(), Error> {
@@ -31,6 +38,15 @@ fn print_table<R: Print + AllocGlobal>(rt: &R) -> Result<(), Error> {
         let answer = names_answer(alloc, map, path)?;
         println!(rt; "names of {path} by {map}\n  {answer}")?;
     }
+    for text in &TEXTS {
+        println!(rt; "text {text}\n  {}", kind_answer(text))?;
+    }
+    for objects in &IMAGES {
+        println!(rt; "image\n{}", image_answer(alloc, objects)?)?;
+    }
+    println!(rt; "module\n{}", module_answer(alloc, &PARTIALS)?)?;
+    let lengths = lengths(alloc, MOST_SOURCES)?;
+    println!(rt; "as many sources as a build may have\n  {lengths}")?;
     Ok(())
 }
 
@@ -46,7 +62,7 @@ fn asked<R: Env>(rt: &R) -> Option<usize> {
 fn main(rt: HostRuntime) -> Result<(), Error> {
     match asked(&rt) {
         Some(files) => {
-            let lengths = work::lengths(rt.alloc(), files)?;
+            let lengths = lengths(rt.alloc(), files)?;
             println!(rt; "{lengths}")?;
             Ok(())
         }

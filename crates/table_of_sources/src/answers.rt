@@ -2,6 +2,7 @@
 
 use crate::cases::LongText;
 use std::alloc::{AllocError, Global};
+use swift_ast::flatten;
 use swift_parser::{FileTree, LexFault, LexWhat, ParseFault, parse_file};
 use swift_token::{LexEnd, Token, TokenKind, tokens};
 
@@ -71,10 +72,57 @@ fn shown_fault(alloc: Global, fault: &ParseFault) -> Result<String, AllocError> 
     }
 }
 
-// What a file gave: its tree or its fault.
-fn shown_file(alloc: Global, found: &Result<FileTree, ParseFault>) -> Result<String, AllocError> {
+fn same_token(one: &Token<'_>, other: &Token<'_>) -> bool {
+    one.kind == other.kind
+        && one.text == other.text
+        && one.first_on_line == other.first_on_line
+        && one.line == other.line
+        && one.column == other.column
+}
+
+// Whether both lists have the same tokens.
+fn same_tokens(given: &[Token<'_>], found: &[Token<'_>]) -> bool {
+    given.len() == found.len()
+        && given
+            .iter()
+            .zip(found)
+            .all(|(one, other)| same_token(one, other))
+}
+
+// How many tokens a tree gives back; None where they are not those of the text.
+fn tokens_given_back(
+    alloc: Global,
+    text: &str,
+    tree: &FileTree,
+) -> Result<Option<usize>, AllocError> {
+    if text.len() > MOST_BYTES {
+        return Ok(None);
+    }
+    let Ok(given) = flatten(alloc, tree) else {
+        return Err(AllocError);
+    };
+    match tokens(alloc, text) {
+        Ok(found) if same_tokens(&given, &found) => Ok(Some(found.len())),
+        Ok(_) | Err(LexEnd::Fault(_)) => Ok(None),
+        Err(LexEnd::NoMemory) => Err(AllocError),
+    }
+}
+
+fn text_of(bytes: &[u8]) -> &str {
+    str::from_utf8(bytes).unwrap_or("")
+}
+
+// What a file gave: its tree, which gives back the file's tokens, or its fault.
+fn shown_file(
+    alloc: Global,
+    bytes: &[u8],
+    found: &Result<FileTree, ParseFault>,
+) -> Result<String, AllocError> {
     match found {
-        Ok(_) => String::from_str(alloc, "a tree"),
+        Ok(tree) => match tokens_given_back(alloc, text_of(bytes), tree)? {
+            Some(_) => String::from_str(alloc, "a tree"),
+            None => String::from_str(alloc, "a tree of other tokens"),
+        },
         Err(fault) => shown_fault(alloc, fault),
     }
 }
@@ -82,7 +130,30 @@ fn shown_file(alloc: Global, found: &Result<FileTree, ParseFault>) -> Result<Str
 /// What `parse_file` answers to the bytes of a file.
 pub fn file_answer(alloc: Global, bytes: &[u8]) -> Result<String, AllocError> {
     let found = parse_file(alloc, "a.swift", bytes);
-    shown_file(alloc, &found)
+    shown_file(alloc, bytes, &found)
+}
+
+// How much a large file gave: the declarations of its tree and the tokens that it gives back, or its fault.
+fn shown_size(
+    alloc: Global,
+    text: &str,
+    found: &Result<FileTree, ParseFault>,
+) -> Result<String, AllocError> {
+    match found {
+        Ok(tree) => match tokens_given_back(alloc, text, tree)? {
+            Some(count) => {
+                format!(in alloc; "declarations: {}, tokens: {count}", tree.decls.len())
+            }
+            None => String::from_str(alloc, "a tree of other tokens"),
+        },
+        Err(fault) => shown_fault(alloc, fault),
+    }
+}
+
+/// How many declarations and tokens a large file has.
+pub fn size_answer(alloc: Global, text: &str) -> Result<String, AllocError> {
+    let found = parse_file(alloc, "a.swift", text.as_bytes());
+    shown_size(alloc, text, &found)
 }
 
 // What a file of a project gave: the path of its tree and how many declarations it has, or its fault.

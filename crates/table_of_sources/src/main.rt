@@ -9,7 +9,7 @@ mod cases;
 mod shapes;
 mod work;
 
-use answers::{bytes_of, file_answer, project_answer, shown_pieces, token_answer};
+use answers::{bytes_of, file_answer, project_answer, shown_pieces, size_answer, token_answer};
 use anyhow::{Error, anyhow};
 use cases::{BYTES, GROUPS, LONG_TEXTS, PROJECT, TOKEN_TEXTS};
 use shapes::Shape;
@@ -18,6 +18,9 @@ use std::env;
 use std::env::FillError;
 use std::rt::Env;
 use work::{Task, Work};
+
+/// The most bytes that a source file may have.
+const MAX_FILE_BYTES: usize = 262_144;
 
 // Prints the answers to the texts of files that are written out.
 fn print_groups<R: Print + AllocGlobal>(rt: &R) -> Result<(), Error> {
@@ -45,6 +48,18 @@ fn print_limits<R: Print + AllocGlobal>(rt: &R) -> Result<(), Error> {
     for bytes in &BYTES {
         let answer = file_answer(alloc, bytes)?;
         println!(rt; "{bytes:?}\n  {answer}")?;
+    }
+    Ok(())
+}
+
+// Prints the answers to a file that has every construct and as many bytes as a file may have, and one byte more.
+fn print_sizes<R: Print + AllocGlobal>(rt: &R) -> Result<(), Error> {
+    let alloc = rt.alloc();
+    println!(rt; "# every construct")?;
+    for bytes in [MAX_FILE_BYTES, MAX_FILE_BYTES + 1] {
+        let text = Shape::Constructs.text(alloc, bytes)?;
+        let answer = size_answer(alloc, text.as_str())?;
+        println!(rt; "{bytes} bytes\n  {answer}")?;
     }
     Ok(())
 }
@@ -104,6 +119,7 @@ fn asked<R: Env>(rt: &R, alloc: Global) -> Result<Option<Task>, AllocError> {
 fn print_table<R: Print + AllocGlobal>(rt: &R) -> Result<(), Error> {
     print_groups(rt)?;
     print_limits(rt)?;
+    print_sizes(rt)?;
     print_rest(rt)
 }
 

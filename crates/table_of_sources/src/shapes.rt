@@ -22,7 +22,38 @@ pub enum Shape {
 
     /// One string.
     Characters,
+
+    /// Declarations, statements and expressions of every kind.
+    Constructs,
 }
+
+/// Every construct of the language.
+const CONSTRUCTS: &str = "\
+public struct Point {
+    let x: Int
+    private var y: Int = -1
+    var z = \"a\\n\\\"b\"
+    fileprivate var far: Bool { return !(x <= 10 && y >= self.x) || x != y }
+    internal func moved(by step: Int, _ twice: Bool, last: String) -> Point {
+        var next = Point(x: x + step * 2 / 3 % 4 - 1, y: y)
+        let same: Bool = (true == false)
+        next.y = step
+        next.inner.x = (1 + 2) * 3
+        if twice { next.x = 1 } else if same { next.x = 2 } else { next.x = 3 }
+        while x < 3 || x > 5 { next.x = x } // again
+        next.moved(by: 1, true, last: \"s\").show()
+        return next
+    }
+}
+extension Point {
+    var half: Int { return x / 2 }
+    private func show() { return }
+}
+typealias Place = Point
+private let origin: Place = Point(x: 0, y: 1_000)
+var count = f(false, g: /* a /* b */ */ origin.x)
+func empty() { }
+";
 
 // Puts a text behind another one so many times.
 fn push_times(text: &mut String, piece: &str, times: usize) -> Result<(), AllocError> {
@@ -50,6 +81,7 @@ impl Shape {
             "brackets" => Some(Shape::Brackets),
             "comment" => Some(Shape::Comment),
             "characters" => Some(Shape::Characters),
+            "constructs" => Some(Shape::Constructs),
             _ => None,
         }
     }
@@ -57,7 +89,7 @@ impl Shape {
     // What stands in front, and what stands behind.
     fn ends(self) -> (&'static str, &'static str) {
         match self {
-            Shape::Declarations | Shape::Brackets => ("", ""),
+            Shape::Declarations | Shape::Brackets | Shape::Constructs => ("", ""),
             Shape::Operands => ("let a = 1", ""),
             Shape::Comment => ("/*", "*/"),
             Shape::Characters => ("let a = \"", "\""),
@@ -70,6 +102,7 @@ impl Shape {
             Shape::Declarations => String::from_str(alloc, "let abc = 123\n"),
             Shape::Operands => String::from_str(alloc, " + 1"),
             Shape::Brackets => bracketed(alloc),
+            Shape::Constructs => String::from_str(alloc, CONSTRUCTS),
             Shape::Comment | Shape::Characters => String::from_str(alloc, "a"),
         }
     }

@@ -5,11 +5,11 @@ use Rattle.swift_ast.specs.Leaves.{Leaf}
 use Rattle.swift_ast.specs.Terminals.{number}
 use Rattle.swift_ast.specs.Tests.{on}
 use Rattle.swift_ast.proofs.TestFacts.{sample, sample_on}
-use Rattle.token_cursor.specs.declared.tests_of_tokens.Test.{Test}
-use Rattle.token_cursor.specs.declared.tests_of_tokens.Test.TheVariants as test
+use Rattle.token_cursor.specs.declared.token_class.TokenClass.{TokenClass}
+use Rattle.token_cursor.specs.declared.token_class.TokenClass.TheVariants as test
 use Rattle.token_cursor.specs.Reading.{test_of}
 
-abbrev pub sample_of : Test → Leaf
+abbrev pub sample_of : TokenClass → Leaf
 sample_of (test.Is k) = sample true k
 sample_of test.PrefixOperator = sample true T.Not
 sample_of test.InfixOperator = sample true T.Plus
@@ -28,7 +28,7 @@ sample_of test.BeginsNextExtensionMember = sample true T.Var
 equal_to_itself : (n : ℕ) → (n == n) ≡ true
 equal_to_itself n = grind arith
 
-pub sample_holds : (t : Test) → on (test_of t) (sample_of t) ≡ true
+pub sample_holds : (t : TokenClass) → on (test_of t) (sample_of t) ≡ true
 sample_holds (test.Is k) = sample_on (test_of (test.Is k)) true k (equal_to_itself (number k))
 sample_holds test.PrefixOperator = sample_on (test_of test.PrefixOperator) true T.Not refl
 sample_holds test.InfixOperator = sample_on (test_of test.InfixOperator) true T.Plus refl

@@ -1,7 +1,7 @@
 -- What a function of the parser says.
 use Rattle.std.specs.Prelude.{◌≡◌, Bool, true, false, ◌&&◌, ◌||◌, ◌<◌, ◌≤◌, List, [], ◌∷◌, length, Option, Some, None, Result, Ok, Err}
 use Rattle.grammar.specs.Forms.{Form, begins_by, begins_label, nothing}
-use Rattle.grammar.specs.Faults.{Stops, Taken, Refused}
+use Rattle.grammar.specs.Faults.{Stops, Parsed, FailsAt}
 use Rattle.swift_ast.specs.declared.terminals.Terminal.{Terminal}
 use Rattle.swift_ast.specs.declared.terminals.Terminal.TheVariants as T
 use Rattle.swift_ast.specs.Leaves.{Leaf}
@@ -9,10 +9,10 @@ use Rattle.swift_ast.specs.Terminals.{terminal}
 use Rattle.swift_ast.specs.Tests as tests
 use Rattle.token_cursor.specs.declared.stop.Stop.{Stop}
 use Rattle.token_cursor.specs.declared.stop.Stop.TheVariants as stop
-use Rattle.token_cursor.specs.declared.tests_of_tokens.Test.{Test}
-use Rattle.token_cursor.specs.declared.tests_of_tokens.Test.TheVariants as test
+use Rattle.token_cursor.specs.declared.token_class.TokenClass.{TokenClass}
+use Rattle.token_cursor.specs.declared.token_class.TokenClass.TheVariants as test
 
-abbrev pub test_of : Test → tests.Test
+abbrev pub test_of : TokenClass → tests.Test
 test_of (test.Is terminal) = tests.is terminal
 test_of test.PrefixOperator = tests.is_prefix_operator
 test_of test.InfixOperator = tests.is_infix_operator
@@ -38,27 +38,27 @@ abbrev pub Eaten : (Leaf → Bool) → Option Leaf → List Leaf → List Leaf �
 Eaten test (Some x) old new = (old ≡ x ∷ new) × (test x ≡ true)
 Eaten test None old new = (new ≡ old) × Stops test old
 
--- a tree that begins with a token of the test and goes on with nothing was taken, or no such token was there
+-- a tree that begins with a token of the test and continues with nothing was taken, or no such token was there
 abbrev pub TakesIf : {X : Type 0} → (Leaf → Bool) → Form Leaf X → Option X → List Leaf → List Leaf → Type 0
-TakesIf test f (Some x) old new = Taken f x nothing old new
+TakesIf test f (Some x) old new = Parsed f x nothing old new
 TakesIf test f None old new = (new ≡ old) × Stops test old
 
 -- a tree was taken, or the first fault is at hand, unless memory ran out
-abbrev pub Reads : {X : Type 0} → Form Leaf X → Result X Stop → List Leaf → List Leaf → Type 0
-Reads f (Ok x) old new = Taken f x (f.goes_on x) old new
-Reads f (Err stop.Refused) old new = Refused f old new
-Reads f (Err stop.NoMemory) old new = Unit {0}
+abbrev pub Parses : {X : Type 0} → Form Leaf X → Result X Stop → List Leaf → List Leaf → Type 0
+Parses f (Ok x) old new = Parsed f x (f.continues x) old new
+Parses f (Err stop.Unexpected) old new = FailsAt f old new
+Parses f (Err stop.NoMemory) old new = Unit {0}
 
 -- where a tree in front was taken up to here, whatever stood before it, a tree that begins with it was taken, or the first fault is at hand
-abbrev pub ReadsBehind : {X Y : Type 0} → Form Leaf X → X → Form Leaf Y → Result Y Stop → List Leaf → List Leaf → Type 0
-ReadsBehind f x g result mid new = (old : List Leaf) → Taken f x (f.goes_on x) old mid → Reads g result old new
+abbrev pub ParsesBehind : {X Y : Type 0} → Form Leaf X → X → Form Leaf Y → Result Y Stop → List Leaf → List Leaf → Type 0
+ParsesBehind f x g result mid new = (old : List Leaf) → Parsed f x (f.continues x) old mid → Parses g result old new
 
 -- a tree that begins with a token of the test was taken, or there is none such
-abbrev pub ReadsIf : {X : Type 0} → (Leaf → Bool) → Form Leaf X → Result (Option X) Stop → List Leaf → List Leaf → Type 0
-ReadsIf test f (Ok None) old new = (new ≡ old) × Stops test old
-ReadsIf test f (Ok (Some x)) old new = Taken f x (f.goes_on x) old new
-ReadsIf test f (Err stop.Refused) old new = (begins_by test old ≡ true) × Refused f old new
-ReadsIf test f (Err stop.NoMemory) old new = Unit {0}
+abbrev pub ParsesIf : {X : Type 0} → (Leaf → Bool) → Form Leaf X → Result (Option X) Stop → List Leaf → List Leaf → Type 0
+ParsesIf test f (Ok None) old new = (new ≡ old) × Stops test old
+ParsesIf test f (Ok (Some x)) old new = Parsed f x (f.continues x) old new
+ParsesIf test f (Err stop.Unexpected) old new = (begins_by test old ≡ true) × FailsAt f old new
+ParsesIf test f (Err stop.NoMemory) old new = Unit {0}
 
 -- a label and its colon were taken, or the tokens don't begin so
 abbrev pub LabelEaten : Option (Leaf × Leaf) → List Leaf → List Leaf → Type 0
@@ -66,14 +66,14 @@ LabelEaten (Some x) old new = (old ≡ x.0 ∷ (x.1 ∷ new)) × (tests.on (test
 LabelEaten None old new = (new ≡ old) × (begins_label (tests.on (tests.is T.Identifier)) (tests.on (tests.is T.Colon)) old ≡ false)
 
 -- names with full stops between them, and `=` behind the last
-abbrev pub goes_on_to_assign : List Leaf → Bool
-goes_on_to_assign [] = false
-goes_on_to_assign (t ∷ []) = tests.on (tests.is T.Assign) t
-goes_on_to_assign (t ∷ (u ∷ ts)) = tests.on (tests.is T.Assign) t || (tests.on (tests.is T.Dot) t && (tests.on (tests.is T.Identifier) u && goes_on_to_assign ts))
+abbrev pub continues_to_assign : List Leaf → Bool
+continues_to_assign [] = false
+continues_to_assign (t ∷ []) = tests.on (tests.is T.Assign) t
+continues_to_assign (t ∷ (u ∷ ts)) = tests.on (tests.is T.Assign) t || (tests.on (tests.is T.Dot) t && (tests.on (tests.is T.Identifier) u && continues_to_assign ts))
 
 abbrev pub begins_assign : List Leaf → Bool
 begins_assign [] = false
-begins_assign (t ∷ ts) = tests.on (tests.is T.Identifier) t && goes_on_to_assign ts
+begins_assign (t ∷ ts) = tests.on (tests.is T.Identifier) t && continues_to_assign ts
 
 -- what the next token is to the grammar
 abbrev pub next_of : List Leaf → Terminal

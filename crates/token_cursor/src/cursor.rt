@@ -3,23 +3,23 @@ ghost use Rattle.grammar.specs.Forms.{token, begins_by};
 ghost use Rattle.swift_ast.specs.Leaves.{leaf_of};
 ghost use Rattle.swift_ast.specs.Terminals.{terminal};
 ghost use Rattle.swift_ast.specs.Tests.{on};
-ghost use Rattle.token_cursor.specs.Reading.{test_of, Shortens, Eaten, LabelEaten, Reads, begins_assign, goes_on_to_assign, next_of};
+ghost use Rattle.token_cursor.specs.Reading.{test_of, Shortens, Eaten, LabelEaten, Parses, begins_assign, continues_to_assign, next_of};
 
 use crate::stop::Stop;
-use crate::tests_of_tokens::Test;
+use crate::token_class::TokenClass;
 use std::alloc::{AllocError, Global};
 use std::marker::Model;
 use swift_ast::{Leaf, Terminal, Text, Token};
 
 /// The tokens that are still to be read, and what the next one is to the grammar.
 #[derive(Drop)]
-pub struct Tokens<'a> {
+pub struct TokenCursor<'a> {
     rest: &'a [Token<'a>],
     next: Terminal,
     ghost is_next: { next ≡ next_of (map leaf_of rest.now) },
 }
 
-impl<'a> Model for Tokens<'a> {
+impl<'a> Model for TokenCursor<'a> {
     ghost use Rattle.std.specs.Prelude.{List, map};
     ghost use Rattle.swift_ast.specs.Leaves.{Leaf, leaf_of};
 
@@ -35,7 +35,7 @@ pub fn terminal(token: &Token<'_>) -> Terminal
     Terminal::of(token.kind, token.text)
 }
 
-fn is(token: &Token<'_>, test: Test) -> bool
+fn is(token: &Token<'_>, test: TokenClass) -> bool
     ensures { result ≡ on (test_of test) (leaf_of token.now) }
 {
     test.holds(terminal(token), token.first_on_line)
@@ -55,35 +55,37 @@ fn leaf(alloc: Global, token: &Token<'_>) -> Result<Leaf, AllocError>
 }
 
 /// Whether `=` stands behind full stops and names.
-fn goes_on_to_assign(tokens: &[Token<'_>]) -> bool
-    ensures { result ≡ goes_on_to_assign (map leaf_of tokens.now) }
+fn continues_to_assign(tokens: &[Token<'_>]) -> bool
+    ensures { result ≡ continues_to_assign (map leaf_of tokens.now) }
 {
     let mut rest = tokens;
     while let [dot, name, more @ ..] = rest {
-        if is(dot, Test::Is(Terminal::Assign)) {
+        if is(dot, TokenClass::Is(Terminal::Assign)) {
             return true;
         }
-        if !is(dot, Test::Is(Terminal::Dot)) || !is(name, Test::Is(Terminal::Identifier)) {
+        if !is(dot, TokenClass::Is(Terminal::Dot))
+            || !is(name, TokenClass::Is(Terminal::Identifier))
+        {
             return false;
         }
         rest = more;
     }
     match rest {
-        [last] => is(last, Test::Is(Terminal::Assign)),
+        [last] => is(last, TokenClass::Is(Terminal::Assign)),
         _ => false,
     }
 }
 
-impl<'a> Tokens<'a> {
-    pub fn new(tokens: &'a [Token<'a>]) -> Tokens<'a>
+impl<'a> TokenCursor<'a> {
+    pub fn new(tokens: &'a [Token<'a>]) -> TokenCursor<'a>
         ensures { result ≡ map leaf_of tokens.now }
     {
         match tokens {
-            [first, ..] => Tokens {
+            [first, ..] => TokenCursor {
                 rest: tokens,
                 next: terminal(first),
             },
-            [] => Tokens {
+            [] => TokenCursor {
                 rest: tokens,
                 next: Terminal::Unused,
             },
@@ -117,13 +119,13 @@ impl<'a> Tokens<'a> {
         ensures unread { OnErr result (self.new ≡ self.old) }
     {
         let leaf = leaf(alloc, token)?;
-        *self = Tokens::new(rest);
+        *self = TokenCursor::new(rest);
         Ok(leaf)
     }
 
     /// Takes the next token if it is of the test.
     #[inline(always)]
-    pub fn eat(&mut self, alloc: Global, test: Test) -> Result<Option<Leaf>, AllocError>
+    pub fn eat(&mut self, alloc: Global, test: TokenClass) -> Result<Option<Leaf>, AllocError>
         ensures eaten { IfOk result (λ found. Eaten (on (test_of test)) found self.old self.new) }
         ensures unread { OnErr result (self.new ≡ self.old) }
         ensures shrinks { length self.new ≤ length self.old }
@@ -141,21 +143,21 @@ impl<'a> Tokens<'a> {
 
     /// Takes the next token, which is to be of the test.
     #[inline]
-    pub fn expect(&mut self, alloc: Global, test: Test) -> Result<Leaf, Stop>
-        ensures reads { Reads (token (on (test_of test))) result self.old self.new }
+    pub fn expect(&mut self, alloc: Global, test: TokenClass) -> Result<Leaf, Stop>
+        ensures reads { Parses (token (on (test_of test))) result self.old self.new }
         ensures shrinks { length self.new ≤ length self.old }
         ensures shortens { OnOk result (length self.new < length self.old) }
         ensures unread { OnErr result (self.new ≡ self.old) }
     {
         match self.eat(alloc, test)? {
             Some(leaf) => Ok(leaf),
-            None => Err(Stop::Refused),
+            None => Err(Stop::Unexpected),
         }
     }
 
     /// Whether the next token is of the test.
     #[inline(always)]
-    pub fn sees(&self, test: Test) -> bool
+    pub fn sees(&self, test: TokenClass) -> bool
         ensures { result ≡ begins_by (on (test_of test)) self.now }
     {
         match self.rest {
@@ -169,8 +171,8 @@ impl<'a> Tokens<'a> {
         ensures { result ≡ begins_assign self.now }
     {
         match self.rest {
-            [token, rest @ ..] => is(token, Test::Is(Terminal::Identifier))
-                && goes_on_to_assign(rest),
+            [token, rest @ ..] => is(token, TokenClass::Is(Terminal::Identifier))
+                && continues_to_assign(rest),
             [] => false,
         }
     }
@@ -184,12 +186,14 @@ impl<'a> Tokens<'a> {
         let [name, colon, rest @ ..] = self.rest else {
             return Ok(None);
         };
-        if !is(name, Test::Is(Terminal::Identifier)) || !is(colon, Test::Is(Terminal::Colon)) {
+        if !is(name, TokenClass::Is(Terminal::Identifier))
+            || !is(colon, TokenClass::Is(Terminal::Colon))
+        {
             return Ok(None);
         }
         let name = leaf(alloc, name)?;
         let colon = leaf(alloc, colon)?;
-        *self = Tokens::new(rest);
+        *self = TokenCursor::new(rest);
         Ok(Some((name, colon)))
     }
 }

@@ -6,8 +6,8 @@
 
 mod cursor;
 mod stop;
-mod tests_of_tokens;
+mod token_class;
 
-pub use cursor::{Tokens, terminal};
+pub use cursor::{TokenCursor, terminal};
 pub use stop::Stop;
-pub use tests_of_tokens::Test;
+pub use token_class::TokenClass;

@@ -4,7 +4,7 @@ use std::alloc::{AllocError, AllocFailed};
 #[derive(Debug, Drop)]
 pub enum Stop {
     /// The next token, or the end, is the first fault.
-    Refused,
+    Unexpected,
 
     /// Memory was wanted and not there.
     NoMemory,

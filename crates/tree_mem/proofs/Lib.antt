@@ -1,4 +1,6 @@
+pub mod Changes
 pub mod Entries
+pub mod FailureLemmas
 pub mod Filters
 pub mod Plain
 pub mod Sorted

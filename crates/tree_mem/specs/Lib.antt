@@ -1,4 +1,5 @@
 pub mod MemSources
-pub mod Sink
 pub mod Sources
+pub mod Disk
 pub mod Tree
+pub mod Sink

@@ -2,14 +2,11 @@
 use Rattle.std.proofs.Common.{◌≡◌, ◌⊎◌, ◌↔◌, ℕ, Bool, true, false, not, cond, ◌&&◌, List, [], ◌∷◌, Some, None, refl, sym, ap, ◌∙◌, subst, inl, inr, arith}
 use Rattle.std.specs.List.{Contains, list_all}
 use Rattle.std.specs.Cmp.Lexicographic.{bytes_decides}
+use Rattle.std.proofs.lemmas.Bool.{and_parts}
 use Rattle.std.proofs.lemmas.List.Elements.{Contains-append_left, Contains-append_right, Contains-append_cases, Contains-push, Contains-push_cases}
 use Rattle.type_rules.specs.declared.ty.Ty.{Ty}
 use Rattle.type_rules.specs.Sameness.{same_type, same_type_decides}
 use Rattle.type_rules.specs.Operators.{Row, row, is_about, result_in, binary_rows, unary_rows, binary_type, unary_type}
-
-both_true : (a b : Bool) → (a && b) ≡ true → (a ≡ true) × (b ≡ true)
-both_true true b e = (refl, e)
-both_true false b e = absurd cc
 
 some_is : {A : Type 0} (a b : A) → Some a ≡ Some b → a ≡ b
 some_is a b e = cc
@@ -27,13 +24,13 @@ first_or_later x y xs c = elim (Contains-append_cases (x ∷ []) xs y c) [ inl f
 passes : {X : Type 0} (test : X → Bool) (xs : List X) (x : X) → list_all test xs ≡ true → Contains xs x → test x ≡ true
 passes test [] x h c = absurd (nothing x c)
 passes test (y ∷ ys) x h c =
-    let p = both_true (test y) (list_all test ys) h in
+    let p = and_parts (test y) (list_all test ys) h in
     elim (first_or_later y x ys c) [ inl e ↦ ap test (sym e) ∙ p.0 | inr later ↦ passes test ys x p.1 later ]
 
 -- what a row is about
 row_of : (operator : List ℕ) (operand : Ty) (x : Row) → is_about operator operand x ≡ true → x ≡ row operator operand x.result
 row_of operator operand x h =
-    let p = both_true (same_type operand x.operand) _ h in
+    let p = and_parts (same_type operand x.operand) _ h in
     let types = sym ((same_type_decides operand x.operand).0 p.0) in
     let operators = sym ((bytes_decides operator x.operator).0 p.1) in
     λ i. record { operator = operators i; operand = types i; result = x.result }
@@ -68,7 +65,7 @@ pub standing_found : (rows : List Row) (operator : List ℕ) (operand given : Ty
     → are_apart rows ≡ true → Contains rows (row operator operand given) → result_in rows operator operand ≡ Some given
 standing_found [] operator operand given d c = absurd (nothing _ c)
 standing_found (x ∷ rows) operator operand given d c =
-    let p = both_true (list_all (λ later. not (is_about x.operator x.operand later)) rows) (are_apart rows) d in
+    let p = and_parts (list_all (λ later. not (is_about x.operator x.operand later)) rows) (are_apart rows) d in
     by (is_about operator operand x) refl (passes (λ later. not (is_about x.operator x.operand later)) rows (row operator operand given) p.0)
     (standing_found rows operator operand given p.1) (first_or_later x (row operator operand given) rows c)
   where

@@ -3,12 +3,18 @@
 ghost use Rattle.std.specs.Prelude.{◌≡◌, ◌↔◌, ℕ, List, Some, IsTrue};
 ghost use Rattle.std.specs.List.{Contains};
 ghost use Rattle.type_rules.specs.declared.ty.Ty.{Ty};
-ghost use Rattle.type_rules.specs.Sameness.{same_type};
+ghost use Rattle.type_rules.specs.declared.meaning.Meaning.{Meaning};
+ghost use Rattle.type_rules.specs.Sameness.{same_type, same_meaning};
 ghost use Rattle.type_rules.specs.Operators.{row, binary_rows, unary_rows, binary_type, unary_type};
 
 /// Types that compare as equal are one type.
 pub fn types_equal_or_differ()
     ensures { (a b : Ty) → IsTrue (same_type a b) ↔ (a ≡ b) }
+{}
+
+/// Meanings that compare as equal are one meaning.
+pub fn meanings_equal_or_differ()
+    ensures { (a b : Meaning) → IsTrue (same_meaning a b) ↔ (a ≡ b) }
 {}
 
 /// An operator gives a type exactly where the table has a row that says so, and both operands of a binary

@@ -4,6 +4,7 @@
 
 mod answers;
 mod laws;
+mod lists;
 mod meaning;
 mod operators;
 mod sizes;
@@ -11,7 +12,8 @@ mod ty;
 
 pub use answers::Answers;
 pub use dep_key::{Key, Name, NoMemory};
-pub use laws::{operators_are_rows, types_equal_or_differ};
+pub use laws::{meanings_equal_or_differ, operators_are_rows, types_equal_or_differ};
+pub use lists::{Fields, Parameters};
 pub use meaning::{Field, Meaning, Parameter};
 pub use operators::{binary, unary};
 pub use sizes::words;

@@ -1,25 +1,11 @@
 //! The sizes of types.
 
 ghost use Rattle.std.specs.Prelude.{◌≡◌, true, IfOk, OnErr};
-ghost use Rattle.type_rules.specs.Words.{nominal_key, field_words, is_struct, words_of};
+ghost use Rattle.type_rules.specs.Sizes.{field_words, is_struct, words_of};
 
 use crate::{Answers, Meaning, Ty};
-use dep_key::{Aspect, Key, Kind, Name, NoMemory};
+use dep_key::{Key, NoMemory};
 use std::alloc::Global;
-
-/// The key of the stored properties of a struct.
-fn nominal_key(alloc: Global, context: &Name) -> Result<Key, NoMemory>
-    ensures { IfOk result (λ key. key ≡ nominal_key context.now) }
-{
-    let context = context.clone()?;
-    let name = Name::from_str(alloc, "")?;
-    Ok(Key {
-        kind: Kind::Nominal,
-        aspect: Aspect::Interface,
-        context,
-        name,
-    })
-}
 
 /// The words of the fields that a key means.
 fn field_words(meaning: &Meaning) -> Option<u64>
@@ -45,7 +31,7 @@ pub fn words<A: Answers>(alloc: Global, ty: &Ty, answers: &A) -> Result<Option<u
         Ty::Bool => Ok(Some(1)),
         Ty::Void => Ok(Some(0)),
         Ty::Struct(context) => {
-            let key = nominal_key(alloc, context)?;
+            let key = Key::nominal(context.clone()?);
             let words = field_words(answers.meaning(&key));
             Ok(words)
         }

@@ -3,8 +3,6 @@ ghost use Rattle.std.specs.Ordering.{eq_by_cmp};
 ghost use Rattle.dep_key.specs.KeyOrder.{key_order};
 
 use super::*;
-use dep_key::{Aspect, Kind};
-use sqlite_items::Items;
 use std::alloc::Global;
 use std::test::Fail;
 
@@ -175,22 +173,23 @@ fn copies_equal_what_they_copy(rt: HostRuntime) -> Result<(), Fail> {
     assert_eq!(rt; copy_of_type(&width.ty)?, width.ty);
     assert_eq!(rt; copy_of_field(&width)?, width);
     assert_eq!(rt; copy_of_parameter(&parameter)?, parameter);
+    let known = point_known(alloc)?;
+    assert_eq!(rt; known.meaning.clone()?, known.meaning);
+    assert!(rt; known.meaning != known.others);
     Ok(())
 }
 
 fn point_known(alloc: Global) -> Result<OneKnown, NoMemory> {
-    let key = Key {
-        kind: Kind::Nominal,
-        aspect: Aspect::Interface,
-        context: Name::from_str(alloc, "Point")?,
-        name: Name::from_str(alloc, "")?,
-    };
-    let mut fields = Items::new(alloc);
+    let key = Key::nominal(Name::from_str(alloc, "Point")?);
+    let mut fields = Vec::new(alloc);
     fields.push(field(alloc, "x", Ty::Int, 0)?)?;
     fields.push(field(alloc, "label", Ty::String, 1)?)?;
     Ok(OneKnown {
         key,
-        meaning: Meaning::Fields { fields, words: 3 },
+        meaning: Meaning::Fields {
+            fields: Fields::from_vec(fields),
+            words: 3,
+        },
         others: Meaning::NoProvider,
     })
 }

@@ -1,17 +1,8 @@
 use driver_cmd::{Status, drive, drive_alone};
-use drv_outside::{JobGate, Stamp, Text, Tree};
+use drv_outside::{OpenGate, Stamp, Text, Tree};
 use std::alloc::{AllocError, Global};
 use std::test::Fail;
 use tree_mem::{MemSink, MemTree};
-
-/// A gate that holds no job back.
-pub struct OpenGate;
-
-impl JobGate for OpenGate {
-    fn enter(&self, _file: u32) {}
-
-    fn leave(&self, _file: u32) {}
-}
 
 /// Puts a source into a tree.
 pub fn put(tree: &mut MemTree, path: &str, text: &str) -> Result<(), Fail> {

@@ -1,5 +1,6 @@
 use Rattle.std.proofs.Common.{◌≡◌, true}
 use Rattle.queries.proofs.Solution.{takes, waits-there, circle, never-known}
+use Rattle.queries.proofs.Needed.{needed-waits}
 use Rattle.queries.proofs.demand_laws.Goals as goal
 
 pub returns-clause-answers : goal.returns-clause-answers
@@ -13,3 +14,6 @@ returns-clause-circles g c = λ r W each k w. record { at = λ n. circle r (λ x
 
 pub returns-clause-unknown : goal.returns-clause-unknown
 returns-clause-unknown g c = never-known
+
+pub returns-clause-awaited : goal.returns-clause-awaited
+returns-clause-awaited g c = needed-waits

@@ -1,29 +1,34 @@
-use Rattle.std.proofs.Common.{◌-◌, ◌∙◌, arith, sym}
+use Rattle.std.proofs.Common.{◌-◌, ◌∙◌, arith, sym, lit<}
 use Rattle.std.proofs.lemmas.Nat.{one_shl}
-use Rattle.bitstream.specs.Fields.{place, vbr_at}
-use Rattle.bitstream.proofs.GroupLaws.{vbr-err, vbr-wide, digit_is, more-last, more-next, more-low}
+use Rattle.bitstream.specs.Fields.{input_at, vbr_at}
+use Rattle.bitstream.proofs.GroupLaws.{vbr-answer, vbr-err, vbr-wide, digit_is, more-last, more-next, more-low}
 use Rattle.bitstream.proofs.field.groups_field.Goals as goal
 
+pub each-init : goal.each-init
+each-init c = record {
+  within = c.requires.at;
+  behind = omega arith;
+  fits = lit< tt;
+  sum = omega arith;
+  read = sym (vbr-answer c.args.width (input_at c.args.bytes.now c.args.at));
+}
+
 pub returns-in-Err-clause-read : goal.returns-in-Err-clause-read
-unfolding vbr_at
-returns-in-Err-clause-read c = sym c.each.invariant.read ∙ vbr-err c.args.at c.args.width c.each.sum c.each.shift (place c.args.bytes.now c.each.here) _ c.each.invariant.fits c.in-Err.ensures.read
+returns-in-Err-clause-read c = sym c.each.invariant.read ∙ vbr-err c.args.at c.args.width c.each.sum c.each.shift (input_at c.args.bytes.now c.each.here) _ c.each.invariant.fits c.in-Err.ensures.read
 
 pub returns-in-None-clause-read : goal.returns-in-None-clause-read
-unfolding vbr_at
 returns-in-None-clause-read c =
     let wide = rw (digit_is c.in-Ok.group c.args.width c.requires.width) at c.in-None.ensures.none in
-    sym c.each.invariant.read ∙ vbr-wide c.args.at c.args.width c.each.sum c.each.shift (place c.args.bytes.now c.each.here) _ c.in-Ok.group
+    sym c.each.invariant.read ∙ vbr-wide c.args.at c.args.width c.each.sum c.each.shift (input_at c.args.bytes.now c.each.here) _ c.in-Ok.group
     (omega (arith, c.requires.some)) c.in-Ok.ensures.read c.in-Ok.ensures.value wide
 
 pub returns-then-group-top-clause-read : goal.returns-then-group-top-clause-read
-unfolding vbr_at
 returns-then-group-top-clause-read c =
     let low = rw (one_shl (c.args.width - 1) 64 (omega (arith, c.requires.width))) at c.if-group-top.true in
-    sym c.each.invariant.read ∙ more-last c.args.at c.args.width c.each.sum c.each.shift c.in-Some.more _ (place c.args.bytes.now c.each.here) _ c.in-Ok.group
+    sym c.each.invariant.read ∙ more-last c.args.at c.args.width c.each.sum c.each.shift c.in-Some.more _ (input_at c.args.bytes.now c.each.here) _ c.in-Ok.group
     c.in-Ok.ensures.read low (digit_is c.in-Ok.group c.args.width c.requires.width) c.in-Some.ensures.some c.in-Some.ensures.fits
 
 pub each-preserved : goal.each-preserved
-unfolding vbr_at
 each-preserved c =
     let high = rw (one_shl (c.args.width - 1) 64 (omega (arith, c.requires.width))) at c.if-group-top.false in
     let digit = digit_is c.in-Ok.group c.args.width c.requires.width in
@@ -32,6 +37,6 @@ each-preserved c =
       behind = omega (arith, c.each.invariant.behind, c.requires.some);
       fits = c.in-Some.ensures.fits;
       sum = more-low c.args.width c.each.sum c.each.shift c.in-Some.more _ c.in-Ok.group digit c.in-Some.ensures.some c.each.invariant.sum;
-      read = more-next c.args.at c.args.width c.each.sum c.each.shift c.in-Some.more _ (place c.args.bytes.now c.each.here) _ c.in-Ok.group
+      read = more-next c.args.at c.args.width c.each.sum c.each.shift c.in-Some.more _ (input_at c.args.bytes.now c.each.here) _ c.in-Ok.group
           (omega (arith, c.requires.some)) c.in-Ok.ensures.read high c.in-Ok.ensures.value digit c.in-Some.ensures.some ∙ c.each.invariant.read;
     }

@@ -2,7 +2,7 @@ use Rattle.std.proofs.Common.{◌≡◌, ◌∙◌, ◌++◌, ◌+◌, ap, sym, 
 use Rattle.std.specs.BTreeMap.{get}
 use Rattle.std.proofs.lemmas.List.{at_drop_more}
 use Rattle.dep_key.specs.KeyOrder.{key_order}
-use Rattle.decl_index.specs.FileKeys.{file_keys}
+use Rattle.decl_index.specs.Declarations.{file_keys}
 use Rattle.decl_index.specs.Providers.{entries_from, entries_of, found, items_or_none}
 use Rattle.decl_index.proofs.Entering.{all-entered, found-more}
 use Rattle.decl_index.proofs.index.enter_files.Goals as goal

@@ -1,5 +1,5 @@
 use Rattle.std.proofs.Common.{◌≡◌, ◌++◌, drop}
-use Rattle.decl_index.specs.FileKeys.{private_structs}
+use Rattle.decl_index.specs.Declarations.{private_structs}
 use Rattle.decl_index.proofs.private_structs.private_names.Given as goal
 
 abbrev pub invariant-loop-decl : goal.invariant-loop-decl

@@ -3,7 +3,7 @@ use Rattle.std.specs.BTreeSet as sets
 use Rattle.std.specs.BTreeMap.{is_at}
 use Rattle.std.specs.Cmp.Lexicographic.{slice_cmp, pointwise, texts_ties}
 use Rattle.std.proofs.lemmas.List.{at_drop_more}
-use Rattle.decl_index.specs.FileKeys.{is_among}
+use Rattle.decl_index.specs.Declarations.{is_among}
 use Rattle.decl_index.proofs.SetLemmas.{one_more_known}
 use Rattle.decl_index.proofs.private_structs.set_of.Goals as goal
 

@@ -1,7 +1,7 @@
 use Rattle.std.proofs.Common.{◌≡◌, ◌||◌, ℕ, List, drop, nat_cmp}
 use Rattle.std.specs.BTreeSet as sets
 use Rattle.std.specs.Cmp.Lexicographic.{slice_cmp}
-use Rattle.decl_index.specs.FileKeys.{is_among}
+use Rattle.decl_index.specs.Declarations.{is_among}
 use Rattle.decl_index.proofs.private_structs.set_of.Given as goal
 
 -- A name is in the set or among those that are left, where it is among all.

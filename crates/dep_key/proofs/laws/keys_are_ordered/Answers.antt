@@ -1,5 +1,5 @@
 use Rattle.dep_key.specs.KeyOrder.{key_order_total}
-use Rattle.dep_key.proofs.KeyLaws.{keys_apart}
+use Rattle.dep_key.specs.KeysApart.{keys_apart}
 use Rattle.dep_key.proofs.laws.keys_are_ordered.Goals as goal
 
 pub returns-clause-total : goal.returns-clause-total

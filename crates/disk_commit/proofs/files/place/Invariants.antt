@@ -1,12 +1,13 @@
-use Rattle.std.proofs.Common.{◌≡◌, ◌≤◌, option_map, drop}
-use Rattle.disk_commit.specs.Files.{all_written}
+use Rattle.std.proofs.Common.{◌≡◌, option_map, take}
+use Rattle.drv_outside.specs.Moments.{all_done}
+use Rattle.disk_commit.specs.Steps.{writes}
 use Rattle.disk_commit.proofs.files.place.Given as goal
 
--- What is left to write makes of the tree what all of it makes of the tree at first.
+-- The files so far are written.
 abbrev pub invariant-loop-file : goal.invariant-loop-file
 invariant-loop-file g l =
-    let told = g.T.Tree.told in
+    let observed = g.T.Tree.observed in
     record {
-      rest : option_map (all_written (drop l.file-index l.files)) (told l.tree) ≡ option_map (all_written l.files) (told l.fn.tree);
-      count : g.T.Tree.faults l.fn.tree ≤ g.T.Tree.faults l.tree;
+      done : observed l.tree ≡ option_map (all_done (writes (take l.file-index l.files))) (observed l.fn.tree);
+      count : g.T.Tree.faults l.tree ≡ g.T.Tree.faults l.fn.tree;
     }

@@ -1,12 +1,13 @@
-use Rattle.std.proofs.Common.{◌≡◌, ◌≤◌, option_map, drop}
-use Rattle.disk_commit.specs.Files.{all_removed}
+use Rattle.std.proofs.Common.{◌≡◌, option_map, take}
+use Rattle.drv_outside.specs.Moments.{all_done}
+use Rattle.disk_commit.specs.Steps.{removals}
 use Rattle.disk_commit.proofs.files.sweep.Given as goal
 
--- What is left to remove makes of the tree what all of it makes of the tree at first.
+-- The names so far are removed.
 abbrev pub invariant-loop-name : goal.invariant-loop-name
 invariant-loop-name g l =
-    let told = g.T.Tree.told in
+    let observed = g.T.Tree.observed in
     record {
-      rest : option_map (all_removed (drop l.name-index l.names)) (told l.tree) ≡ option_map (all_removed l.names) (told l.fn.tree);
-      count : g.T.Tree.faults l.fn.tree ≤ g.T.Tree.faults l.tree;
+      done : observed l.tree ≡ option_map (all_done (removals (take l.name-index l.names))) (observed l.fn.tree);
+      count : g.T.Tree.faults l.tree ≡ g.T.Tree.faults l.fn.tree;
     }

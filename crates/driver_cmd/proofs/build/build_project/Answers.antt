@@ -3,10 +3,10 @@ use Rattle.std.specs.Prelude.{IfSome}
 use Rattle.std.proofs.lemmas.Result.{err_from_is_err_and}
 use Rattle.diag_text.specs.Line.{lines_of}
 use Rattle.drv_outside.specs.Reads.{reads_then}
-use Rattle.drv_outside.specs.Where.{WhereTold}
+use Rattle.drv_outside.specs.IfObserved.{IfObserved}
 use Rattle.disk_commit.specs.Files.{folder_of}
 use Rattle.driver_cmd.specs.Clean.{module_errors, module_objects}
-use Rattle.driver_cmd.specs.Project.{IsProject}
+use Rattle.driver_cmd.specs.ReadSources.{IsReadFrom}
 use Rattle.driver_cmd.proofs.BuildLemmas.{refused_leaves, built_leaves}
 use Rattle.driver_cmd.proofs.build.build_project.Goals as goal
 
@@ -17,16 +17,17 @@ returns-in_err-lines-in-Trees-clause-early g c =
 
 pub returns-in_ok-printed-in-Refused-clause-clean : goal.returns-in_ok-printed-in-Refused-clause-clean
 returns-in_ok-printed-in-Refused-clause-clean g c =
-    let told = g.T.Tree.told in
-    refused_leaves (told c.args.tree.now) (told c.read_project.new.tree) c.in-Refused.errors.items c.into_vec.result.items c.in_ok-errors.ensures.reads
-    (subst (λ p. IfSome (told c.args.tree.now) (λ t. IsProject t.sources p)) c.in-Refused.is c.in_ok-errors.ensures.project)
+    let observed = g.T.Tree.observed in
+    refused_leaves (observed c.args.tree.now) (observed c.read_project.new.tree) c.in-Refused.errors.items c.into_vec.result.items c.in_ok-errors.ensures.passed
+    (subst (λ p. IfSome (observed c.args.tree.now) (λ t. IsReadFrom t.sources p)) c.in-Refused.is c.in_ok-errors.ensures.project)
     (c.into_vec.ensures ∙ c.in_ok-printed-in-Refused.ensures ∙ ap lines_of c.deref.ensures.value)
 
 pub returns-in_ok-lines-in-Trees-clause-clean : goal.returns-in_ok-lines-in-Trees-clause-clean
 returns-in_ok-lines-in-Trees-clause-clean g c =
-    let told = g.T.Tree.told in
-    built_leaves (told c.args.tree.now) (told c.read_project.new.tree) (told c.build_module.new.tree) c.in-Trees.files.items c.in_ok-lines-in-Trees.lines.items
-    c.in_ok-errors.ensures.reads
-    (subst (λ p. IfSome (told c.args.tree.now) (λ t. IsProject t.sources p)) c.in-Trees.is c.in_ok-errors.ensures.project)
+    let observed = g.T.Tree.observed in
+    built_leaves (observed c.args.tree.now) (observed c.read_project.new.tree) (observed c.build_module.new.tree) c.in-Trees.files.items c.in_ok-lines-in-Trees.lines.items
+    c.in_ok-errors.ensures.passed
+    (subst (λ p. IfSome (observed c.args.tree.now) (λ t. IsReadFrom t.sources p)) c.in-Trees.is c.in_ok-errors.ensures.project)
     (c.in_ok-lines-in-Trees.ensures.lines ∙ ap (λ fs. lines_of (module_errors fs)) c.deref-in-Trees.ensures.value)
-    (subst (λ fs. WhereTold (told c.read_project.new.tree) (told c.build_module.new.tree) (λ t u. u.folder ≡ folder_of (module_objects fs))) c.deref-in-Trees.ensures.value c.in_ok-lines-in-Trees.ensures.folder)
+    (subst (λ fs. IfObserved (observed c.read_project.new.tree) (observed c.build_module.new.tree) (λ t u. u.folder ≡ folder_of (module_objects fs))) c.deref-in-Trees.ensures.value c.in_ok-lines-in-Trees.ensures.folder)
+    c.in_ok-lines-in-Trees.ensures.synced

@@ -5,6 +5,7 @@ use Rattle.drv_outside.specs.Plain.{is_plain_path}
 use Rattle.integer_globals.specs.declared.trees.FileTree.{FileTree}
 use Rattle.driver_cmd.specs.Clean.{listing_errors, form_errors}
 use Rattle.driver_cmd.specs.Parsed.{AreParsed, parsed_path, entry_paths}
+use Rattle.driver_cmd.proofs.CallLemmas.{pass_one, pass_then}
 use Rattle.driver_cmd.proofs.BuildLemmas.{refused_listing, refused_forms, have_trees, filled, emptied}
 use Rattle.driver_cmd.proofs.ParsedLemmas.{sources_stay, listed_plain, trees_plain}
 use Rattle.drv_outside.specs.Reads.{reads_one, reads_failed, reads_then}
@@ -36,23 +37,23 @@ returns-clause-reads g c = reads_then _ _ _ (reads_one _ _ _ _ tt c.in_ok-entrie
 
 pub returns-then-not-is_empty-clause-project : goal.returns-then-not-is_empty-clause-project
 returns-then-not-is_empty-clause-project g c =
-    refused_listing (g.T.Tree.told c.args.tree.now) c.in_ok-entries.entries.items c.in_ok-errors.errors.items c.in_ok-entries.ensures.answer
+    refused_listing (g.T.Tree.observed c.args.tree.now) c.in_ok-entries.entries.items c.in_ok-errors.errors.items c.in_ok-entries.ensures.answer
     (c.in_ok-errors.ensures ∙ ap (λ es. listing_errors (entry_paths es)) c.deref.ensures.value) (filled c.in_ok-errors.errors (sym c.is_empty.ensures ∙ c.if-not-is_empty.true))
 
 pub returns-then-not-is_empty-2-clause-project : goal.returns-then-not-is_empty-2-clause-project
 returns-then-not-is_empty-2-clause-project g c =
-    refused_forms (g.T.Tree.told c.args.tree.now) c.in_ok-entries.entries.items c.in_ok-files.files.items c.in_ok-errors-2.errors.items c.in_ok-entries.ensures.answer
+    refused_forms (g.T.Tree.observed c.args.tree.now) c.in_ok-entries.entries.items c.in_ok-files.files.items c.in_ok-errors-2.errors.items c.in_ok-entries.ensures.answer
     (sym (c.in_ok-errors.ensures ∙ ap (λ es. listing_errors (entry_paths es)) c.deref.ensures.value) ∙ emptied c.in_ok-errors.errors (sym c.is_empty.ensures ∙ c.if-not-is_empty.false))
     (sources_stay (λ sources. AreParsed sources (entry_paths c.in_ok-entries.entries.items) c.in_ok-files.files.items) _ _ (reads_one _ _ _ _ tt c.in_ok-entries.ensures.change)
-    (subst (λ es. IfSome (g.T.Tree.told c.list.new.self) (λ t. AreParsed t.sources (entry_paths es) c.in_ok-files.files.items)) c.deref-2.ensures.value c.in_ok-files.ensures.files))
+    (subst (λ es. IfSome (g.T.Tree.observed c.list.new.self) (λ t. AreParsed t.sources (entry_paths es) c.in_ok-files.files.items)) c.deref-2.ensures.value c.in_ok-files.ensures.files))
     (c.in_ok-errors-2.ensures ∙ ap form_errors c.deref-3.ensures.value) (filled c.in_ok-errors-2.errors (sym c.is_empty-2.ensures ∙ c.if-not-is_empty-2.true))
 
 pub returns-clause-project : goal.returns-clause-project
 returns-clause-project g c =
-    have_trees (g.T.Tree.told c.args.tree.now) c.in_ok-entries.entries.items c.in_ok-files.files.items c.in_ok-files-2.files.items c.in_ok-entries.ensures.answer
+    have_trees (g.T.Tree.observed c.args.tree.now) c.in_ok-entries.entries.items c.in_ok-files.files.items c.in_ok-files-2.files.items c.in_ok-entries.ensures.answer
     (sym (c.in_ok-errors.ensures ∙ ap (λ es. listing_errors (entry_paths es)) c.deref.ensures.value) ∙ emptied c.in_ok-errors.errors (sym c.is_empty.ensures ∙ c.if-not-is_empty.false))
     (sources_stay (λ sources. AreParsed sources (entry_paths c.in_ok-entries.entries.items) c.in_ok-files.files.items) _ _ (reads_one _ _ _ _ tt c.in_ok-entries.ensures.change)
-    (subst (λ es. IfSome (g.T.Tree.told c.list.new.self) (λ t. AreParsed t.sources (entry_paths es) c.in_ok-files.files.items)) c.deref-2.ensures.value c.in_ok-files.ensures.files))
+    (subst (λ es. IfSome (g.T.Tree.observed c.list.new.self) (λ t. AreParsed t.sources (entry_paths es) c.in_ok-files.files.items)) c.deref-2.ensures.value c.in_ok-files.ensures.files))
     (sym (c.in_ok-errors-2.ensures ∙ ap form_errors c.deref-3.ensures.value) ∙ emptied c.in_ok-errors-2.errors (sym c.is_empty-2.ensures ∙ c.if-not-is_empty-2.false))
     c.in_ok-files-2.ensures
 
@@ -63,3 +64,12 @@ returns-clause-plain g c =
     let paths : map parsed_path c.in_ok-files.files.items ≡ entry_paths c.in_ok-entries.entries.items = c.in_ok-files.ensures.paths ∙ ap entry_paths c.deref-2.ensures.value in
     subst (λ fs. All (λ (file : FileTree). is_plain_path file.path ≡ true) fs) (sym c.in_ok-files-2.ensures)
     (trees_plain c.in_ok-files.files.items (subst (λ ps. list_all is_plain_path ps ≡ true) (sym paths) (listed_plain (entry_paths c.in_ok-entries.entries.items) none)))
+
+pub returns-then-not-is_empty-clause-passed : goal.returns-then-not-is_empty-clause-passed
+returns-then-not-is_empty-clause-passed g c = pass_one _ _ _ tt c.in_ok-entries.ensures.change
+
+pub returns-then-not-is_empty-2-clause-passed : goal.returns-then-not-is_empty-2-clause-passed
+returns-then-not-is_empty-2-clause-passed g c = pass_then _ _ _ (pass_one _ _ _ tt c.in_ok-entries.ensures.change) c.in_ok-files.ensures.passed
+
+pub returns-clause-passed : goal.returns-clause-passed
+returns-clause-passed g c = pass_then _ _ _ (pass_one _ _ _ tt c.in_ok-entries.ensures.change) c.in_ok-files.ensures.passed

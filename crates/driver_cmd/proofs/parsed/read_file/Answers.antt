@@ -1,5 +1,6 @@
 use Rattle.std.proofs.Common.{◌∙◌}
 use Rattle.drv_outside.specs.Reads.{reads_one, reads_failed}
+use Rattle.driver_cmd.proofs.CallLemmas.{pass_one}
 use Rattle.driver_cmd.proofs.ParsedLemmas.{parsed_source}
 use Rattle.driver_cmd.proofs.parsed.read_file.Goals as goal
 
@@ -15,7 +16,10 @@ returns-in_err-file-clause-reads g c = reads_one _ _ _ _ tt c.in_ok-text.ensures
 pub returns-clause-reads : goal.returns-clause-reads
 returns-clause-reads g c = reads_one _ _ _ _ tt c.in_ok-text.ensures.change
 
+pub returns-clause-passed : goal.returns-clause-passed
+returns-clause-passed g c = pass_one _ _ _ tt c.in_ok-text.ensures.change
+
 pub returns-clause-file : goal.returns-clause-file
 returns-clause-file g c =
-    parsed_source c.args.path.now c.as_str.result.now c.in_ok-path.path c.in_ok-text.text c.as_slice.result.now c.in_ok-file.file (g.T.Tree.told c.args.tree.now)
+    parsed_source c.args.path.now c.as_str.result.now c.in_ok-path.path c.in_ok-text.text c.as_slice.result.now c.in_ok-file.file (g.T.Tree.observed c.args.tree.now)
     c.as_str.ensures (c.in_ok-path.ensures ∙ c.as_str-2.ensures) c.as_slice.ensures c.in_ok-text.ensures.answer c.in_ok-file.ensures.file

@@ -1,5 +1,5 @@
-use Rattle.drv_outside.specs.Reads.{reads_nothing}
+use Rattle.driver_cmd.proofs.DrivenLemmas.{driven_refused}
 use Rattle.driver_cmd.proofs.top_call.drive_alone.Goals as goal
 
-pub returns-in-Err-clause-nothing_written : goal.returns-in-Err-clause-nothing_written
-returns-in-Err-clause-nothing_written g c = λ _. reads_nothing _
+pub returns-in-Err : goal.returns-in-Err
+returns-in-Err g c = record { driven = driven_refused c.args.words.now c.in-Err.at _ _ _ _ c.in-Err.ensures }

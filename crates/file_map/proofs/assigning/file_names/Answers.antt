@@ -1,5 +1,6 @@
 use Rattle.std.proofs.Common.{◌≡◌, ◌∙◌, ◌++◌, ap, codes}
-use Rattle.file_map.specs.Assigned.{stem_of, name_of}
+use Rattle.output_names.specs.Stems.{stem_of}
+use Rattle.file_map.specs.Assigned.{name_of}
 use Rattle.file_map.specs.Kinds.{object_kind, module_kind, dependencies_kind}
 use Rattle.file_map.specs.Table.{members}
 use Rattle.file_map.proofs.assigning.file_names.Goals as goal

@@ -6,7 +6,7 @@ use Rattle.std.proofs.lemmas.Bool.{eqb-true, false≢true}
 use Rattle.swift_ast.specs.declared.Token.{Token}
 use Rattle.swift_ast.specs.Leaves.{Leaf, leaf_of}
 use Rattle.swift_token.specs.Texts.{is_blank}
-use Rattle.swift_token.specs.Placing.{IsPlaceBehind}
+use Rattle.swift_token.specs.Positions.{IsPositionBehind}
 use Rattle.integer_globals.proofs.Lexed.{Lexed, lexed_end, lexed_only, lexed_refused}
 use Rattle.integer_globals.proofs.Steps.{blanks_cut, blank_rest, lexed_step, pushed, place_fits}
 use Rattle.integer_globals.proofs.lexer.plain_tokens.Goals as goal
@@ -88,7 +88,7 @@ loop-rest-preserved c =
     append_assoc before c.split_at.result.0.now c.as_bytes.result.now ∙ ap (λ (x : List ℕ). before ++ (c.split_at.result.0.now ++ x)) after_text in (
       before ++ (c.split_at.result.0.now ++ c.in-Some.first.text.now),
       subst (λ (x : List Leaf). Lexed c.args.bytes.now (before ++ (c.split_at.result.0.now ++ c.in-Some.first.text.now)) c.in-Some.first.after.now x) (pushed items c.push.new.self.items _ c.in_ok-push.ensures.items) step,
-      subst (λ (x : List ℕ). IsPlaceBehind c.behind-place.result x) joined (c.behind-place.ensures (before ++ c.split_at.result.0.now) start),
+      subst (λ (x : List ℕ). IsPositionBehind c.behind-place.result x) joined (c.behind-place.ensures (before ++ c.split_at.result.0.now) start),
     )
 
 pub returns-clause-sound : goal.returns-clause-sound

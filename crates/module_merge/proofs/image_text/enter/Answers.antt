@@ -2,7 +2,7 @@ use Rattle.std.proofs.Common.{◌≡◌, ◌∙◌, ◌+◌, drop, ap, sym}
 use Rattle.std.specs.FinMap.{insert}
 use Rattle.std.proofs.lemmas.List.{at_drop_more}
 use Rattle.module_merge.specs.Image.{with_symbols, table_in}
-use Rattle.module_merge.proofs.TableLemmas.{one_set}
+use Rattle.ordered_lists.proofs.TableLemmas.{one_set}
 use Rattle.module_merge.proofs.image_text.enter.Goals as goal
 
 pub loop-symbol-preserved : goal.loop-symbol-preserved

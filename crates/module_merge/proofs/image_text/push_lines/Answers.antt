@@ -2,7 +2,7 @@ use Rattle.std.proofs.Common.{◌≡◌, ◌∙◌, ◌++◌, map, sym, ap, arit
 use Rattle.std.proofs.lemmas.Grind.{common_steps}
 use Rattle.module_merge.specs.Lines.{text_of}
 use Rattle.module_merge.specs.Image.{symbol_line}
-use Rattle.module_merge.proofs.TableLemmas.{entries-from_entries}
+use Rattle.ordered_lists.proofs.TableLemmas.{entries-from_entries}
 use Rattle.module_merge.proofs.image_text.push_lines.Goals as goal
 
 pub returns : goal.returns

@@ -3,7 +3,7 @@ use Rattle.std.specs.BTreeSet as sets
 use Rattle.std.specs.BTreeMap.{is_at}
 use Rattle.std.specs.Cmp.Lexicographic.{slice_cmp, pointwise, texts_ties}
 use Rattle.std.proofs.lemmas.List.{at_drop_more}
-use Rattle.module_merge.specs.Image.{is_among}
+use Rattle.ordered_lists.specs.Among.{is_among}
 use Rattle.module_merge.proofs.linking.set_of.Goals as goal
 
 -- one more symbol among those that are known, and one fewer among those that are left

@@ -1,7 +1,7 @@
 use Rattle.std.proofs.Common.{◌≡◌, ◌||◌, ℕ, List, drop, nat_cmp}
 use Rattle.std.specs.BTreeSet as sets
 use Rattle.std.specs.Cmp.Lexicographic.{slice_cmp}
-use Rattle.module_merge.specs.Image.{is_among}
+use Rattle.ordered_lists.specs.Among.{is_among}
 use Rattle.module_merge.proofs.linking.set_of.Given as goal
 
 -- A symbol is in the set or among those that are left, where it is among all.

@@ -1,7 +1,7 @@
 use Rattle.std.proofs.Common.{◌≡◌, ◌∙◌, subst, sym, nat_cmp}
 use Rattle.std.specs.Prelude.{option_copied}
 use Rattle.std.specs.Cmp.Lexicographic.{slice_cmp}
-use Rattle.repeats.specs.Repeats.{IsLeastRepeat}
+use Rattle.ordered_lists.specs.Repeats.{IsLeastRepeat}
 use Rattle.module_merge.specs.Image.{all_defined}
 use Rattle.module_merge.proofs.linking.twice.Goals as goal
 

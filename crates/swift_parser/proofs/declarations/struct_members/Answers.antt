@@ -1,5 +1,5 @@
 use Rattle.std.proofs.Common.{[], ◌∷◌, ◌++◌, sym, ◌∙◌, ap, subst, arith}
-use Rattle.grammar.specs.Faults.{Taken}
+use Rattle.grammar.specs.Faults.{Parsed}
 use Rattle.grammar.proofs.Basics.{not_begins, taken_shorter}
 use Rattle.grammar.proofs.Lines.{LinesTaken, lines_none, lines_first, lines_begun, lines_later, lines_pushed, lines_done}
 use Rattle.swift_ast.specs.Tests.{on, begins_struct_member, on_new_line}
@@ -8,7 +8,7 @@ use Rattle.swift_parser.proofs.Exits.{passes}
 use Rattle.swift_parser.proofs.declarations.struct_members.Goals as goal
 
 pub returns-then-not-sees-clause-reads : goal.returns-then-not-sees-clause-reads
-returns-then-not-sees-clause-reads c = subst (λ xs. Taken struct_members_form xs (struct_members_form.goes_on xs) c.args.tokens.now c.args.tokens.now) (sym c.new-all.ensures)
+returns-then-not-sees-clause-reads c = subst (λ xs. Parsed struct_members_form xs (struct_members_form.continues xs) c.args.tokens.now c.args.tokens.now) (sym c.new-all.ensures)
     (lines_none (on begins_struct_member) (on (on_new_line begins_struct_member)) struct_line_form c.args.tokens.now (not_begins (on begins_struct_member) c.args.tokens.now (sym c.sees.ensures ∙ c.if-not-sees.true)))
 
 pub returns-in_err-first-clause-reads : goal.returns-in_err-first-clause-reads

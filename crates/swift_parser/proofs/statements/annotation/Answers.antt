@@ -1,5 +1,5 @@
 use Rattle.std.proofs.Common.{◌∷◌, sym, subst, Some}
-use Rattle.grammar.specs.Faults.{Taken}
+use Rattle.grammar.specs.Faults.{Parsed}
 use Rattle.grammar.proofs.Basics.{refused_from}
 use Rattle.swift_ast.specs.declared.terminals.Terminal.TheVariants as T
 use Rattle.swift_ast.specs.Tests.{on, is}
@@ -17,4 +17,4 @@ returns-in_err-written-clause-reads c =
 pub returns-clause-reads : goal.returns-clause-reads
 returns-clause-reads c =
     let e = eaten (on (is T.Colon)) c.in_ok-colon.field-0 c.in-Some.colon c.args.tokens.now c.eat.new.self c.in_ok-colon.ensures.eaten c.in-Some.is in
-    subst (λ ts. Taken annotation_rule (Some (c.in-Some.colon, c.in_ok-written.written)) (annotation_rule.goes_on (Some (c.in-Some.colon, c.in_ok-written.written))) ts c.type_name.new.tokens) (sym e.0) (exits.annotation_taken c.in-Some.colon e.1 c.in_ok-written.ensures.reads)
+    subst (λ ts. Parsed annotation_rule (Some (c.in-Some.colon, c.in_ok-written.written)) (annotation_rule.continues (Some (c.in-Some.colon, c.in_ok-written.written))) ts c.type_name.new.tokens) (sym e.0) (exits.annotation_taken c.in-Some.colon e.1 c.in_ok-written.ensures.reads)

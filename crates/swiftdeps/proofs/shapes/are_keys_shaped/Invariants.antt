@@ -1,6 +1,6 @@
 use Rattle.std.proofs.Common.{◌≡◌, drop}
 use Rattle.std.specs.List.{list_all}
-use Rattle.dep_key.specs.KeyOrder.{has_shape}
+use Rattle.dep_key.specs.KeyShapes.{has_shape}
 use Rattle.swiftdeps.proofs.shapes.are_keys_shaped.Given as goal
 
 abbrev pub invariant-loop-key : goal.invariant-loop-key

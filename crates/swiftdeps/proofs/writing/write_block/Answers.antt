@@ -1,6 +1,6 @@
 use Rattle.std.proofs.Common.{[], ◌∷◌, length, None, ap, ◌∙◌}
 use Rattle.bitstream.specs.Items.{items_in}
-use Rattle.bitstream.specs.Reading.{Record, Leaves}
+use Rattle.bitstream.specs.Reading.{Record, LeaveBlock}
 use Rattle.bitstream.specs.Bits.{bits_of}
 use Rattle.bitstream.specs.Writer.{writing}
 use Rattle.swiftdeps.proofs.ShownLaws.{also_one, block_shown}
@@ -29,7 +29,7 @@ returns-clause-stands c =
     let e = writing c.put_files.new.writer in
     let f = writing c.leave.new.self in
     let header = also_one (length a.bits) (Record 1 (c.args.version ∷ []) None) a b c.in_ok-put_rec.ensures.wrote in
-    let left = also_one (length e.bits) Leaves e f c.in_ok-leave.ensures.wrote in
+    let left = also_one (length e.bits) LeaveBlock e f c.in_ok-leave.ensures.wrote in
     let all = block_shown c.args.version names files a b d e f c.in_ok-writer.ensures.shown header c.in_ok-put_identifiers.ensures.shown c.in_ok-put_files.ensures.shown left in
     record {
       names = names;

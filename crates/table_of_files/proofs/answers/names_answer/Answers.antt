@@ -1,6 +1,10 @@
 use Rattle.std.proofs.Common.{◌∙◌, ◌++◌, [], ◌∷◌, ap}
-use Rattle.table_of_files.proofs.PathLemmas.{one_ascends}
+use Rattle.ordered_lists.proofs.AscendingLemmas.{one_ascends}
+use Rattle.table_of_files.proofs.ModuleNameLemmas.{m_is_name}
 use Rattle.table_of_files.proofs.answers.names_answer.Goals as goal
+
+pub assign-requires-clause-module_name : goal.assign-requires-clause-module_name
+assign-requires-clause-module_name c = m_is_name
 
 pub assign-requires-clause-ascending : goal.assign-requires-clause-ascending
 assign-requires-clause-ascending c =

@@ -1,6 +1,6 @@
 use Rattle.std.proofs.Common.{◌∷◌, sym, ap, subst, Some}
 use Rattle.grammar.specs.Forms.{token}
-use Rattle.grammar.specs.Faults.{Taken}
+use Rattle.grammar.specs.Faults.{Parsed}
 use Rattle.grammar.proofs.Basics.{refused_from}
 use Rattle.swift_ast.specs.declared.terminals.Terminal.TheVariants as T
 use Rattle.swift_ast.specs.Tests.{on, is}
@@ -25,5 +25,5 @@ returns-in_err-closing-2-clause-reads g c =
 pub returns-clause-reads : goal.returns-clause-reads
 returns-clause-reads g c =
     let e = uneaten (on (is T.RightParenthesis)) c.in_ok-closing.field-0 c.args.tokens.now c.eat.new.self c.in_ok-closing.ensures.eaten c.in_default.is in
-    subst (λ ts. Taken args_form (shows.args_made (c.args.opening, (Some c.in_ok-list.list, c.in_ok-closing-2.closing))) (args_form.goes_on (shows.args_made (c.args.opening, (Some c.in_ok-list.list, c.in_ok-closing-2.closing)))) (c.args.opening ∷ ts) c.expect.new.self) (sym e.0)
+    subst (λ ts. Parsed args_form (shows.args_made (c.args.opening, (Some c.in_ok-list.list, c.in_ok-closing-2.closing))) (args_form.continues (shows.args_made (c.args.opening, (Some c.in_ok-list.list, c.in_ok-closing-2.closing)))) (c.args.opening ∷ ts) c.expect.new.self) (sym e.0)
     (exits.args_done c.args.opening c.in_ok-closing-2.closing c.requires.opening c.in_ok-list.ensures.reads c.in_ok-closing-2.ensures.reads)

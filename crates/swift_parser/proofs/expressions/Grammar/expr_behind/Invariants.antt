@@ -1,5 +1,5 @@
 use Rattle.std.proofs.Common.{List, ◌≤◌, length}
-use Rattle.grammar.specs.Faults.{Taken}
+use Rattle.grammar.specs.Faults.{Parsed}
 use Rattle.swift_ast.specs.Leaves.{Leaf}
 use Rattle.swift_ast.specs.Expressions.{prefix_form}
 use Rattle.swift_ast.proofs.ExpressionExits as exits
@@ -7,7 +7,7 @@ use Rattle.swift_parser.proofs.expressions.Grammar.expr_behind.Given as goal
 
 abbrev pub invariant-loop-more : goal.invariant-loop-more
 invariant-loop-more g l =
-    ((old : List Leaf) → Taken prefix_form l.fn.front (prefix_form.goes_on l.fn.front) old l.fn.tokens → exits.ExprSo (l.first, l.more) old l.tokens)
+    ((old : List Leaf) → Parsed prefix_form l.fn.front (prefix_form.continues l.fn.front) old l.fn.tokens → exits.ExprSo (l.first, l.more) old l.tokens)
     × (length l.tokens ≤ length l.fn.tokens)
 
 abbrev pub decreases-loop-more : goal.decreases-loop-more

@@ -1,6 +1,6 @@
 use Rattle.std.proofs.Common.{◌∷◌, sym, subst}
 use Rattle.grammar.specs.Forms.{token}
-use Rattle.grammar.specs.Faults.{Taken}
+use Rattle.grammar.specs.Faults.{Parsed}
 use Rattle.swift_ast.specs.declared.terminals.Terminal.TheVariants as T
 use Rattle.swift_ast.specs.declared.expressions.Atom.TheVariants as atom
 use Rattle.swift_ast.specs.Tests.{on, is}
@@ -18,5 +18,5 @@ returns-in_err-closing-clause-reads g c = passes (token (on (is T.RightParenthes
 
 pub returns-clause-reads : goal.returns-clause-reads
 returns-clause-reads g c =
-    subst (λ parts. Taken atom_form (atom.Parentheses parts) (atom_form.goes_on (atom.Parentheses parts)) (c.args.opening ∷ c.args.tokens.now) c.expect.new.self) (sym c.in_ok-parts.ensures)
+    subst (λ parts. Parsed atom_form (atom.Parentheses parts) (atom_form.continues (atom.Parentheses parts)) (c.args.opening ∷ c.args.tokens.now) c.expect.new.self) (sym c.in_ok-parts.ensures)
     (exits.parentheses_done c.args.opening c.in_ok-closing.closing c.requires.opening c.in_ok-inner.ensures.reads c.in_ok-closing.ensures.reads)

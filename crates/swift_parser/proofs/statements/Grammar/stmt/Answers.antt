@@ -1,12 +1,12 @@
 use Rattle.std.proofs.Common.{◌∷◌, sym, ◌∙◌, subst}
-use Rattle.grammar.specs.Faults.{Taken, Stops}
+use Rattle.grammar.specs.Faults.{Parsed, Stops}
 use Rattle.grammar.proofs.Basics.{refused_from}
 use Rattle.swift_ast.specs.declared.terminals.Terminal.TheVariants as T
 use Rattle.swift_ast.specs.declared.statements.Stmt.TheVariants as stmt
 use Rattle.swift_ast.specs.Tests.{on, is, is_specifier}
 use Rattle.swift_ast.specs.Statements.{specifier_form, stmt_form, if_form}
 use Rattle.swift_ast.proofs.StatementExits as exits
-use Rattle.token_cursor.specs.Reading.{Reads}
+use Rattle.token_cursor.specs.Reading.{Parses}
 use Rattle.swift_parser.proofs.Exits.{passes, eaten, uneaten, took, untaken}
 use Rattle.swift_parser.proofs.statements.Grammar.stmt.Goals as goal
 
@@ -18,13 +18,13 @@ local_behind-requires g c =
 pub returns-in-Some-clause-reads : goal.returns-in-Some-clause-reads
 returns-in-Some-clause-reads g c =
     let u = took (on is_specifier) specifier_form c.in_ok-found.field-0 c.in-Some.found c.args.tokens.now c.specifier.new.tokens c.in_ok-found.ensures.takes c.in-Some.is in
-    subst (λ ts. Reads stmt_form c.local_behind.result ts c.local_behind.new.tokens) (sym (u.spelled)) c.local_behind.ensures.reads
+    subst (λ ts. Parses stmt_form c.local_behind.result ts c.local_behind.new.tokens) (sym (u.spelled)) c.local_behind.ensures.reads
 
 pub returns-in-Some-2-clause-reads : goal.returns-in-Some-2-clause-reads
 returns-in-Some-2-clause-reads g c =
     let d = untaken (on is_specifier) specifier_form c.in_ok-found.field-0 c.args.tokens.now c.specifier.new.tokens c.in_ok-found.ensures.takes c.in_default.is in
     let e = eaten (on (is T.Return)) c.in_ok-return_keyword.field-0 c.in-Some-2.return_keyword c.specifier.new.tokens c.eat.new.self c.in_ok-return_keyword.ensures.eaten c.in-Some-2.is in
-    subst (λ ts. Reads stmt_form c.return_behind.result ts c.return_behind.new.tokens) (sym (d.0 ∙ e.0)) c.return_behind.ensures.reads
+    subst (λ ts. Parses stmt_form c.return_behind.result ts c.return_behind.new.tokens) (sym (d.0 ∙ e.0)) c.return_behind.ensures.reads
 
 pub returns-in_err-conditional-clause-reads : goal.returns-in_err-conditional-clause-reads
 returns-in_err-conditional-clause-reads g c =
@@ -39,7 +39,7 @@ returns-in-Some-3-clause-reads g c =
     let d = untaken (on is_specifier) specifier_form c.in_ok-found.field-0 c.args.tokens.now c.specifier.new.tokens c.in_ok-found.ensures.takes c.in_default.is in
     let f = uneaten (on (is T.Return)) c.in_ok-return_keyword.field-0 c.specifier.new.tokens c.eat.new.self c.in_ok-return_keyword.ensures.eaten c.in_default-2.is in
     let e = eaten (on (is T.If)) c.in_ok-if_keyword.field-0 c.in-Some-3.if_keyword c.eat.new.self c.eat-2.new.self c.in_ok-if_keyword.ensures.eaten c.in-Some-3.is in
-    subst (λ ts. Taken stmt_form (stmt.If c.in_ok-conditional.conditional) (stmt_form.goes_on (stmt.If c.in_ok-conditional.conditional)) ts c.if_behind.new.tokens) (sym (d.0 ∙ f.0 ∙ e.0)) (exits.if_stmt_taken c.in_ok-conditional.ensures.reads)
+    subst (λ ts. Parsed stmt_form (stmt.If c.in_ok-conditional.conditional) (stmt_form.continues (stmt.If c.in_ok-conditional.conditional)) ts c.if_behind.new.tokens) (sym (d.0 ∙ f.0 ∙ e.0)) (exits.if_stmt_taken c.in_ok-conditional.ensures.reads)
 
 pub returns-in-Some-4-clause-reads : goal.returns-in-Some-4-clause-reads
 returns-in-Some-4-clause-reads g c =
@@ -47,7 +47,7 @@ returns-in-Some-4-clause-reads g c =
     let f = uneaten (on (is T.Return)) c.in_ok-return_keyword.field-0 c.specifier.new.tokens c.eat.new.self c.in_ok-return_keyword.ensures.eaten c.in_default-2.is in
     let i = uneaten (on (is T.If)) c.in_ok-if_keyword.field-0 c.eat.new.self c.eat-2.new.self c.in_ok-if_keyword.ensures.eaten c.in_default-3.is in
     let e = eaten (on (is T.While)) c.in_ok-while_keyword.field-0 c.in-Some-4.while_keyword c.eat-2.new.self c.eat-3.new.self c.in_ok-while_keyword.ensures.eaten c.in-Some-4.is in
-    subst (λ ts. Reads stmt_form c.while_behind.result ts c.while_behind.new.tokens) (sym (d.0 ∙ f.0 ∙ i.0 ∙ e.0)) c.while_behind.ensures.reads
+    subst (λ ts. Parses stmt_form c.while_behind.result ts c.while_behind.new.tokens) (sym (d.0 ∙ f.0 ∙ i.0 ∙ e.0)) c.while_behind.ensures.reads
 
 pub assignment-requires : goal.assignment-requires
 assignment-requires g c =
@@ -59,7 +59,7 @@ returns-then-sees_assign-clause-reads g c =
     let f = uneaten (on (is T.Return)) c.in_ok-return_keyword.field-0 c.specifier.new.tokens c.eat.new.self c.in_ok-return_keyword.ensures.eaten c.in_default-2.is in
     let i = uneaten (on (is T.If)) c.in_ok-if_keyword.field-0 c.eat.new.self c.eat-2.new.self c.in_ok-if_keyword.ensures.eaten c.in_default-3.is in
     let w = uneaten (on (is T.While)) c.in_ok-while_keyword.field-0 c.eat-2.new.self c.eat-3.new.self c.in_ok-while_keyword.ensures.eaten c.in_default-4.is in
-    subst (λ ts. Reads stmt_form c.assignment.result ts c.assignment.new.tokens) (sym (d.0 ∙ f.0 ∙ i.0 ∙ w.0)) c.assignment.ensures.reads
+    subst (λ ts. Parses stmt_form c.assignment.result ts c.assignment.new.tokens) (sym (d.0 ∙ f.0 ∙ i.0 ∙ w.0)) c.assignment.ensures.reads
 
 pub call-requires-clause-no_local : goal.call-requires-clause-no_local
 call-requires-clause-no_local g c =
@@ -103,4 +103,4 @@ returns-clause-reads g c =
     let f = uneaten (on (is T.Return)) c.in_ok-return_keyword.field-0 c.specifier.new.tokens c.eat.new.self c.in_ok-return_keyword.ensures.eaten c.in_default-2.is in
     let i = uneaten (on (is T.If)) c.in_ok-if_keyword.field-0 c.eat.new.self c.eat-2.new.self c.in_ok-if_keyword.ensures.eaten c.in_default-3.is in
     let w = uneaten (on (is T.While)) c.in_ok-while_keyword.field-0 c.eat-2.new.self c.eat-3.new.self c.in_ok-while_keyword.ensures.eaten c.in_default-4.is in
-    subst (λ ts. Reads stmt_form c.call.result ts c.call.new.tokens) (sym (d.0 ∙ f.0 ∙ i.0 ∙ w.0)) c.call.ensures.reads
+    subst (λ ts. Parses stmt_form c.call.result ts c.call.new.tokens) (sym (d.0 ∙ f.0 ∙ i.0 ∙ w.0)) c.call.ensures.reads

@@ -1,5 +1,5 @@
 use Rattle.std.proofs.Common.{[], ◌∷◌, ◌++◌, sym, ◌∙◌, ap, subst, arith}
-use Rattle.grammar.specs.Faults.{Taken}
+use Rattle.grammar.specs.Faults.{Parsed}
 use Rattle.swift_ast.specs.Statements.{stmt_form}
 use Rattle.swift_ast.proofs.StatementShows as shows
 use Rattle.swift_parser.proofs.Exits.{passes}
@@ -8,7 +8,7 @@ use Rattle.swift_parser.proofs.statements.Grammar.stmts.Goals as goal
 
 pub returns-then-not-sees-clause-reads : goal.returns-then-not-sees-clause-reads
 returns-then-not-sees-clause-reads g c =
-    subst (λ xs. Taken shows.stmts_form xs (shows.stmts_form.goes_on xs) c.args.tokens.now c.args.tokens.now) (sym c.new-all.ensures) (lemmas.stmts_none c.args.tokens.now (sym c.sees.ensures ∙ c.if-not-sees.true))
+    subst (λ xs. Parsed shows.stmts_form xs (shows.stmts_form.continues xs) c.args.tokens.now c.args.tokens.now) (sym c.new-all.ensures) (lemmas.stmts_none c.args.tokens.now (sym c.sees.ensures ∙ c.if-not-sees.true))
 
 pub returns-in_err-first-clause-reads : goal.returns-in_err-first-clause-reads
 returns-in_err-first-clause-reads g c =

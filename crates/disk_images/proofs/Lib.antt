@@ -1,0 +1,4 @@
+pub mod ImagesLemmas
+pub mod CommitLemmas
+pub mod ActsLemmas
+pub mod MomentsLemmas

@@ -1,0 +1,87 @@
+ghost use Rattle.std.specs.Prelude.{◌≡◌, Ok, Err, MatchOption, MatchResult};
+ghost use Rattle.driver_cmd.specs.Command.{IsFolderName, is_module_name, module_of, option_of, request_of};
+
+use drv_outside::Text;
+use swift_token::{is_keyword, is_word};
+
+const MOST_MODULE_NAME_BYTES: usize = 100;
+
+/// The project folder that the first word of a command line names: a text that isn't empty, since
+/// an empty one would be the root of the file system once a name stands behind it.
+pub fn folder_name(word: &Text) -> Option<&str>
+    ensures { MatchOption result (¬ IsFolderName word.now) (λ folder. (folder.now ≡ word.now) × IsFolderName word.now) }
+{
+    let word = word.as_slice();
+    if word.is_empty() {
+        return None;
+    }
+    match str::from_utf8(word) {
+        Ok(folder) => Some(folder),
+        Err(_) => None,
+    }
+}
+
+// Whether a word is an identifier that may name a module.
+#[tactic(auto, unfolding(crate::specs::Command::is_module_name))]
+fn is_module_name(word: &[u8]) -> bool
+    ensures { result ≡ is_module_name word.now }
+{
+    if word.len() > MOST_MODULE_NAME_BYTES || !is_word(word) {
+        return false;
+    }
+    match str::from_utf8(word) {
+        Ok(text) => !is_keyword(text),
+        Err(_) => false,
+    }
+}
+
+// The module name, from the third word on.
+fn read_module(words: &[Text]) -> Result<&Text, usize>
+    ensures { MatchResult result (λ name. module_of words.now ≡ Ok name.now) (λ at. module_of words.now ≡ Err at) }
+{
+    match words {
+        [] => Err(2),
+        [word, rest @ ..] => {
+            if !is_module_name(word.as_slice()) {
+                return Err(2);
+            }
+            match rest {
+                [] => Ok(word),
+                _ => Err(3),
+            }
+        }
+    }
+}
+
+// The module name, from the second word on.
+fn read_option(words: &[Text]) -> Result<&Text, usize>
+    ensures { MatchResult result (λ name. option_of words.now ≡ Ok name.now) (λ at. option_of words.now ≡ Err at) }
+{
+    match words {
+        [] => Err(1),
+        [word, rest @ ..] => {
+            if word.as_slice() == b"-module-name".as_slice() {
+                read_module(rest)
+            } else {
+                Err(1)
+            }
+        }
+    }
+}
+
+/// The name of the module that a command asks to build, or the first place whose word, after those
+/// before it, begins no accepted command, or the number of words where more are needed.
+pub fn read_request(words: &[Text]) -> Result<&Text, usize>
+    ensures { MatchResult result (λ name. request_of words.now ≡ Ok name.now) (λ at. request_of words.now ≡ Err at) }
+{
+    match words {
+        [] => Err(0),
+        [word, rest @ ..] => {
+            if word.as_slice() == b"build".as_slice() {
+                read_option(rest)
+            } else {
+                Err(0)
+            }
+        }
+    }
+}

@@ -1,8 +1,0 @@
-use Rattle.std.proofs.Common.{◌∙◌, ◌++◌, [], ◌∷◌, ap}
-use Rattle.file_map.proofs.OneLemmas.{one_ascends}
-use Rattle.file_map.proofs.tests.default_names.Goals as goal
-
-pub assign-requires-clause-ascending : goal.assign-requires-clause-ascending
-assign-requires-clause-ascending g c =
-    let path = c.in_ok-from_str.field-0 in
-    one_ascends c.deref.result.now path (c.deref.ensures.value ∙ c.in_ok-push.ensures.items ∙ ap (λ paths. paths ++ path ∷ []) c.new-paths.ensures.items)

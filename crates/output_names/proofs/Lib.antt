@@ -1,0 +1,2 @@
+pub mod StemsLemmas
+pub mod ModuleNamesLemmas
