@@ -24,6 +24,8 @@ use Rattle.checks.specs.Checks.{sure, unsaid, ◌>>=◌, all}
 use Rattle.expr_check.specs.declared.place.Place.{Place}
 use Rattle.expr_check.specs.declared.message.Message.TheVariants as is
 use Rattle.expr_check.specs.declared.typed.Typed.{Typed}
+use Rattle.expr_check.specs.declared.named.Named.{Named}
+use Rattle.expr_check.specs.declared.named.Named.TheVariants as named
 use Rattle.expr_check.specs.declared.scope.Local.{Local}
 use Rattle.expr_check.specs.declared.scope.Scope.{Scope}
 use Rattle.expr_check.specs.Messages.{place_of}
@@ -39,13 +41,6 @@ converted first wanted v = if same_type v.ty wanted then sure v else wrong first
 
 -- ---- names
 
--- What a name in scope stands for: a local, a global, or a member of `self`. Of the last two, the key, whether it may be
--- assigned to, and the type.
-pub data Named : Type 0 where
-  OfLocal : Local → Named
-  OfGlobal : Key → Bool → Ty → Named
-  OfSelf : Key → Bool → Ty → Named
-
 -- the keys of a name that is no local
 abbrev pub keys_in : Option (List ℕ) → List ℕ → List ℕ → List Key
 keys_in None path name = top_keys path name
@@ -60,7 +55,7 @@ by_kind kind.Member of_member other = of_member
 by_kind _ of_member other = other
 
 abbrev pub value_of : Key → Bool → Ty → Named
-value_of key mutable of = by_kind key.kind (OfSelf key mutable of) (OfGlobal key mutable of)
+value_of key mutable of = by_kind key.kind (named.OfSelf key mutable of) (named.Global key mutable of)
 
 abbrev pub value_meant : Leaf → Key → Meaning → CheckOf Named
 value_meant t key (means.Value mutable of) = sure (value_of key mutable of)
@@ -76,7 +71,7 @@ value_found t (Some found) = do
   value_meant t found.0 meaning
 
 abbrev pub named_beyond : Scope → Leaf → Option Local → CheckOf Named
-named_beyond s t (Some l) = sure (OfLocal l)
+named_beyond s t (Some l) = sure (named.Local l)
 named_beyond s t None = do
   found ← look_up (value_keys s t.text)
   value_found t found
@@ -113,9 +108,9 @@ local_value s t number (Some of) = value_by s (place_of t) of (λ of. step.Local
 
 -- A name as a value. A member goes through `self`.
 abbrev pub name_value : Scope → Leaf → Named → CheckOf Typed
-name_value s t (OfLocal l) = local_value s t l.number l.ty
-name_value s t (OfGlobal key mutable of) = value_by s (place_of t) of (λ of. step.Global key.name of)
-name_value s t (OfSelf key mutable of) = do
+name_value s t (named.Local l) = local_value s t l.number l.ty
+name_value s t (named.Global key mutable of) = value_by s (place_of t) of (λ of. step.Global key.name of)
+name_value s t (named.OfSelf key mutable of) = do
   base ← self_value s t
   property s (place_of t) base key of
 
@@ -132,11 +127,15 @@ member_there of m (Some found) = do
   meaning ← usable m found.1
   sure (found.0, meaning)
 
+-- a member of a value of a type, by a context
+abbrev pub member_in : Scope → Ty → List ℕ → Leaf → CheckOf Found
+member_in s of context m = do
+  found ← look_up (member_keys s.path context m.text)
+  member_there of m found
+
 -- A member of a value of a type. Structs alone have members.
 abbrev pub member_named : Scope → Ty → Leaf → CheckOf Found
-member_named s (ty.Struct context) m = do
-  found ← look_up (member_keys s.path context m.text)
-  member_there (ty.Struct context) m found
+member_named s (ty.Struct context) m = member_in s (ty.Struct context) context m
 member_named s of m = wrong_name m (λ name. is.NoMember of name)
 
 abbrev pub member_value : Scope → Place → Leaf → Typed → Found → CheckOf Typed
@@ -174,9 +173,13 @@ binary_as t left right (Some of) = sure (typed of (left.code ++ operator_code t.
 abbrev pub binary : Leaf → Typed × Typed → CheckOf Typed
 binary t (left, right) = binary_as t left right (binary_type t.text left.ty right.ty)
 
+-- what an operator before an operand does
+abbrev pub prefix_step : List ℕ → Step
+prefix_step text = if same_text text (codes "-") then step.Negate else step.Not
+
 abbrev pub unary_as : Leaf → Typed → Option Ty → CheckOf Typed
 unary_as t v None = wrong (place_of t) (is.NoUnary t.text v.ty)
-unary_as t v (Some of) = sure (typed of (v.code ++ (if same_text t.text (codes "-") then step.Negate else step.Not) ∷ []))
+unary_as t v (Some of) = sure (typed of (v.code ++ prefix_step t.text ∷ []))
 
 -- An operator before an operand.
 abbrev pub unary : Leaf → Typed → CheckOf Typed

@@ -15,11 +15,11 @@ use Rattle.expr_check.specs.declared.message.Message.{Message}
 use Rattle.expr_check.specs.declared.message.Message.TheVariants as is
 
 -- a name in a sentence
-abbrev pub about : List ℕ → List ℕ → List ℕ → List ℕ
+unfoldable pub about : List ℕ → List ℕ → List ℕ → List ℕ
 about before name after = before ++ name ++ after
 
 -- What is said, each below its place and its cause.
-abbrev pub text_of : Message → List ℕ
+unfoldable pub text_of : Message → List ℕ
 -- at a value's name that nothing has
 text_of (is.NotFound name) = about (codes "cannot find '") name (codes "' in scope")
 -- at a type's name that nothing has

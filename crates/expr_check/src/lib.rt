@@ -8,6 +8,7 @@
 mod laws;
 mod line;
 mod message;
+mod named;
 mod place;
 mod scope;
 mod typed;
@@ -15,6 +16,7 @@ mod typed;
 pub use laws::expression_laws;
 pub use line::Line;
 pub use message::Message;
+pub use named::Named;
 pub use place::Place;
 pub use scope::{Local, Scope};
 pub use typed::Typed;

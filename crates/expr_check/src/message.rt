@@ -1,4 +1,4 @@
-use dep_key::{Name, Text};
+use dep_key::Name;
 use type_rules::Ty;
 
 /// What is wrong at a token. The text of each stands in `specs/Messages.antt`.
@@ -35,10 +35,10 @@ pub enum Message {
     NoConversion(Ty, Ty),
 
     /// The operator has no meaning between operands of these types.
-    NoBinary(Text, Ty, Ty),
+    NoBinary(Name, Ty, Ty),
 
     /// The operator has no meaning before an operand of this type.
-    NoUnary(Text, Ty),
+    NoUnary(Name, Ty),
 
     /// The number or the labels of the arguments differ from what is called.
     WrongArguments(Name),
