@@ -1,0 +1,7 @@
+pub mod Cuts
+pub mod PrintTypes
+pub mod PrintLaws
+pub mod Covering
+pub mod FileNodes
+pub mod Covered
+pub mod Worked

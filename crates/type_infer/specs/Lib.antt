@@ -1,0 +1,6 @@
+pub mod Readings
+pub mod Meanings
+pub mod Kinds
+pub mod Plain
+pub mod Sound
+pub mod Laws
