@@ -4,9 +4,11 @@ pub mod EntryLaws
 pub mod EntryReadingLaws
 pub mod FieldLaws
 pub mod FormLaws
+pub mod FrontLaws
 pub mod GroupLaws
 pub mod ItemLaws
 pub mod BlockInfoLaws
+pub mod LastingLaws
 pub mod LeadLaws
 pub mod LevelLaws
 pub mod ListLaws

@@ -12,7 +12,7 @@ use Rattle.bitstream.proofs.FormLaws.{Spelled}
 use Rattle.bitstream.proofs.ItemLaws.{entry-read, items-step, items-end, outside-sound}
 use Rattle.bitstream.proofs.EntryFormLaws.{Same, same-depth, as_list, EntryTo, IsRead, entry-again, entry-takes}
 
-no_elements : {X : Type 0} (xs : List X) → length xs ≡ 0 → xs ≡ []
+pub no_elements : {X : Type 0} (xs : List X) → length xs ≡ 0 → xs ≡ []
 no_elements [] h = refl
 no_elements (x ∷ xs) h = absurd (omega (arith, h))
 
@@ -105,7 +105,7 @@ again-all (e ∷ es) c w at bs items s sound (front, rest, later, form, may, mor
     let behind = (entry-read c (at_bits at (front ++ rest)) ((r.item, r.after), at_bits (at + length front) rest) sound' r.read).1.2 in
     rw (bs-is, items-is) (again-step c w e at front rest later sound' r (again-all es r.after (after_entry w (at + length front) e) (at + length front) rest later r.same behind more))
 
-outside-same : Same outside no_blocks
+pub outside-same : Same outside no_blocks
 outside-same = record { matches = (refl, refl, refl, refl, refl); defined = refl; named = refl }
 
 -- What a reader gives to the end is what the bytes stand for.

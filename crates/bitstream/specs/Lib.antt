@@ -3,6 +3,7 @@ pub mod Buffer
 pub mod Cursor
 pub mod Entries
 pub mod Fields
+pub mod Fronts
 pub mod Items
 pub mod BlockInfo
 pub mod Operands

@@ -1,7 +1,8 @@
 //! Laws of numbers in bits and of what bytes stand for. Each function's contract is the law; it does
 //! nothing when it runs.
 
-ghost use Rattle.std.specs.Prelude.{◌≡◌, ◌≤◌, ◌*◌, ◌+◌, ◌^◌, ◌<◌, ℕ, Bool, List, Ok, None, length};
+ghost use Rattle.std.specs.Prelude.{◌≡◌, ◌≤◌, ◌*◌, ◌+◌, ◌^◌, ◌<◌, ℕ, Bool, List, Ok, Some, None, length};
+ghost use Rattle.bitstream.specs.declared.item.BitFault.{BitFault};
 ghost use Rattle.bitstream.specs.Bits.{bits};
 ghost use Rattle.bitstream.specs.Fields.{Input, fixed_at, vbr_at, IsReadBack, Stands};
 ghost use Rattle.bitstream.specs.Spelling.{IsVbr};
@@ -9,6 +10,7 @@ ghost use Rattle.bitstream.specs.Writing.{vbr_bits};
 ghost use Rattle.bitstream.specs.Reading.{Seen};
 ghost use Rattle.bitstream.specs.Items.{items_in};
 ghost use Rattle.bitstream.specs.Stands.{StandFor};
+ghost use Rattle.bitstream.specs.Fronts.{OfFurthestFront, FirstFault};
 
 /// What a writer's `fixed` wrote is what a reader's `fixed` reads, whatever follows.
 pub fn fixed_is_read_back()
@@ -39,4 +41,16 @@ pub fn what_is_written_is_read()
 /// Bytes stand for one list of items at most.
 pub fn bytes_stand_for_one_list()
     ensures { (bytes : List ℕ) (items others : List (ℕ × Seen)) → StandFor bytes items → StandFor bytes others → items ≡ others }
+{}
+
+/// What a reader gives are the items of the furthest front of the bytes, and of no other list.
+pub fn items_are_of_the_furthest_front()
+    ensures given { (bytes : List ℕ) → (stop : ℕ) × OfFurthestFront bytes (items_in bytes).0 stop }
+    ensures one { (bytes : List ℕ) (items others : List (ℕ × Seen)) (stop end : ℕ) → OfFurthestFront bytes items stop → OfFurthestFront bytes others end → (items ≡ others) × (stop ≡ end) }
+{}
+
+/// The first fault is told where the furthest front ends. No front goes further there, whatever
+/// follows the bytes, but where a field isn't whole, or a block that is entered has not all its words.
+pub fn no_front_goes_on_at_the_first_fault()
+    ensures { (bytes : List ℕ) (items : List (ℕ × Seen)) (fault : BitFault) → items_in bytes ≡ (items, Some fault) → FirstFault bytes items fault }
 {}

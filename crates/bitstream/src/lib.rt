@@ -25,7 +25,8 @@ mod writer;
 
 pub use item::{AbbrevOp, BitFault, Item};
 pub use laws::{
-    bytes_stand_for_one_list, fixed_is_read_back, vbr_is_read_back, vbr_is_read_where_it_stands,
+    bytes_stand_for_one_list, fixed_is_read_back, items_are_of_the_furthest_front,
+    no_front_goes_on_at_the_first_fault, vbr_is_read_back, vbr_is_read_where_it_stands,
     what_is_read_is_written, what_is_written_is_read,
 };
 pub use no_memory::NoMemory;
