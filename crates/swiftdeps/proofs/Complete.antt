@@ -266,7 +266,7 @@ files_pass one bits fault s version names done (file ∷ files) h f all paths =
 
 -- ---- the identifiers
 
-identifier_again : (one : Bool) (at : ℕ) (s : State) (text : List ℕ) → s.stage ≡ Names → IsIdentifier text → is_above_text (last s.names) text ≡ true → item_at one at (identifier_item text) s ≡ Ok (record s { names = s.names ++ text ∷ [] })
+pub identifier_again : (one : Bool) (at : ℕ) (s : State) (text : List ℕ) → s.stage ≡ Names → IsIdentifier text → is_above_text (last s.names) text ≡ true → item_at one at (identifier_item text) s ≡ Ok (record s { names = s.names ++ text ∷ [] })
 unfolding record_at identifier_at identifier_of
 identifier_again one at s text g h a = rw (g, is_utf8-from_IsUtf8 text h.1, h.0, a) refl
 
@@ -281,15 +281,15 @@ identifiers_pass one bits fault (text ∷ names) s g all a =
 
 -- ---- the whole
 
-block_again : (one : Bool) (at : ℕ) → item_at one at (Enters 8) nothing_read ≡ Ok (record nothing_read { stage = Version })
+pub block_again : (one : Bool) (at : ℕ) → item_at one at (Enters 8) nothing_read ≡ Ok (record nothing_read { stage = Version })
 unfolding block_at
 block_again one at = refl
 
-version_again : (one : Bool) (at version : ℕ) → is_version one version ≡ true → item_at one at (Record 1 (version ∷ []) None) (record nothing_read { stage = Version }) ≡ Ok (record nothing_read { stage = Names; version = version })
+pub version_again : (one : Bool) (at version : ℕ) → is_version one version ≡ true → item_at one at (Record 1 (version ∷ []) None) (record nothing_read { stage = Version }) ≡ Ok (record nothing_read { stage = Names; version = version })
 unfolding record_at version_at
 version_again one at version v = rw v refl
 
-leave_again : (one : Bool) (at : ℕ) (s : State) → may_end one s.stage ≡ true → item_at one at LeaveBlock s ≡ Ok (record s { stage = Behind })
+pub leave_again : (one : Bool) (at : ℕ) (s : State) → may_end one s.stage ≡ true → item_at one at LeaveBlock s ≡ Ok (record s { stage = Behind })
 unfolding leave_at
 leave_again one at s h = rw h refl
 
@@ -326,7 +326,7 @@ items_again one bits version files items v f h =
     nil_of [] e = refl
     nil_of (x ∷ xs) e = absurd cc
 
-stream_again : (stream : List ℕ) → stream_of (codes "DEPS" ++ stream) ≡ Some stream
+pub stream_again : (stream : List ℕ) → stream_of (codes "DEPS" ++ stream) ≡ Some stream
 stream_again stream = rw (le-ltb (suc (suc (suc (suc (length stream))))) 4 (omega arith)) refl
 
 pub bytes_again : (one : Bool) (version : ℕ) (files : List FileGraph) (bytes : List ℕ) → is_version one version ≡ true → (one ≡ true → length files ≡ 1) → BytesSpell version files bytes → bytes_judged one bytes ≡ Ok (version, files)

@@ -1,5 +1,6 @@
 pub mod Complete
 pub mod FaultLaws
+pub mod FrontLaws
 pub mod Lists
 pub mod LongLaws
 pub mod NameLaws

@@ -94,7 +94,7 @@ pub record BytesRead (one : Bool) (x : ℕ × List FileGraph) (bytes : List ℕ)
 some_is : {A : Type 0} (a b : A) → Some a ≡ Some b → a ≡ b
 some_is a b e = cc
 
-signed : (bytes stream : List ℕ) → stream_of bytes ≡ Some stream → bytes ≡ codes "DEPS" ++ stream
+pub signed : (bytes stream : List ℕ) → stream_of bytes ≡ Some stream → bytes ≡ codes "DEPS" ++ stream
 signed bytes stream e = by (nat_lt (length bytes) 4) (pointwise nat_eq (take 4 bytes) (codes "DEPS")) refl e
   where
     by : (a b : Bool) → b ≡ pointwise nat_eq (take 4 bytes) (codes "DEPS") → cond a None (cond b (Some (drop 4 bytes)) None) ≡ Some stream → bytes ≡ codes "DEPS" ++ stream

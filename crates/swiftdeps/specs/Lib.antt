@@ -1,4 +1,5 @@
 pub mod Collected
+pub mod Fronts
 pub mod Judging
 pub mod Shown
 pub mod Spelling
