@@ -16,11 +16,11 @@ use Rattle.type_infer.specs.Sound.{is_asked_kind}
 use Rattle.type_infer.proofs.ListFacts.{both-true}
 use Rattle.type_infer.proofs.PlainMeanings.{meanings-plain, may-mean, plain-having, readings-ask}
 use Rattle.iface_print.specs.Prints.{access_text, item_text, mutable_text, type_text, more_params_text, params_text, value_mark, fields_text, meaning_text, declaration_text, text_for_kind, is_one_line, PrintsFixMeanings, PrintsAreLines}
-use Rattle.iface_print.specs.Coverage.{KeptKeysMeanTheSame, QueriesAgree, NodesAgree, PrintsAgree, Covers}
+use Rattle.iface_print.specs.Coverage.{KeptKeysMeanTheSame, UsedKeysMeanTheSame, QueriesAgree, NodesAgree, PrintsAgree, Covers}
 use Rattle.iface_print.proofs.PrintTypes.{type-word, PlainParameters}
 use Rattle.iface_print.proofs.PrintLaws.{same-meaning, small, number-word, keyword-word, access-word, item-word, IsSmall, PlainFields, SmallFields}
 use Rattle.iface_print.proofs.FileNodes.{prints-agree}
-use Rattle.iface_print.proofs.Covering.{kept-means, queries-agree, nodes-agree}
+use Rattle.iface_print.proofs.Covering.{kept-means, asked-same, queries-agree, nodes-agree}
 
 kind-text : (kind : Kind) → is_asked_kind kind ≡ true → (d : Declaration) (m : Meaning) → text_for_kind kind d m ≡ declaration_text d m
 kind-text TopLevel a d m = refl
@@ -98,14 +98,18 @@ prints-lines files h = record {
       (meaning-line m (meanings-plain files h key) (small key d.item m a (may-mean files key d md))))));
 }
 
-pub kept : {B : Type 0} → Covers B (λ bodies. KeptKeysMeanTheSame)
-kept bodies changed p s hp hs c = kept-means bodies changed p s (meanings-plain p hp) readings-ask (prints-fix p s hp hs) (prints-lines p hp) (prints-lines s hs) c
+pub kept : Covers (λ implementation. KeptKeysMeanTheSame)
+kept implementation changed p s hp hs c = kept-means implementation changed p s (meanings-plain p hp) readings-ask (prints-fix p s hp hs) (prints-lines p hp) (prints-lines s hs) c
 
-pub queries : {B X : Type 0} → Covers B (QueriesAgree X)
-queries {B} {X} bodies changed p s hp hs c = queries-agree X bodies changed p s (meanings-plain p hp) readings-ask (prints-fix p s hp hs) (prints-lines p hp) (prints-lines s hs) c
+pub used : Covers UsedKeysMeanTheSame
+used implementation changed p s hp hs c f m free key a u =
+    asked-same implementation changed p s (meanings-plain p hp) readings-ask (prints-fix p s hp hs) (prints-lines p hp) (prints-lines s hs) c key a (c.traced f m free key u)
 
-pub nodes : {B : Type 0} → Covers B (λ bodies. NodesAgree)
-nodes bodies changed p s hp hs c = nodes-agree bodies changed p s (meanings-plain p hp) readings-ask (prints-fix p s hp hs) (prints-lines p hp) (prints-lines s hs) c
+pub queries : {X : Type 0} → Covers (QueriesAgree X)
+queries {X} implementation changed p s hp hs c = queries-agree X implementation changed p s (meanings-plain p hp) readings-ask (prints-fix p s hp hs) (prints-lines p hp) (prints-lines s hs) c
 
-pub prints : {B : Type 0} → Covers B (λ bodies. PrintsAgree)
-prints bodies changed p s hp hs c = prints-agree bodies changed p s c (nodes bodies changed p s hp hs c)
+pub nodes : Covers (λ implementation. NodesAgree)
+nodes implementation changed p s hp hs c = nodes-agree implementation changed p s (meanings-plain p hp) readings-ask (prints-fix p s hp hs) (prints-lines p hp) (prints-lines s hs) c
+
+pub prints : Covers (λ implementation. PrintsAgree)
+prints implementation changed p s hp hs c = prints-agree implementation changed p s c (nodes implementation changed p s hp hs c)

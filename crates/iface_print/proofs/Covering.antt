@@ -65,8 +65,8 @@ having-outside changed p s same key =
     ∙ sym (filter-swap (λ (d : Declaration). not (changed d.path)) (has_key key) (flat_map declarations_in s))
 
 -- a kept key has the same declarations in both
-pub having-same : {B : Type 0} (bodies : FileTree → Query B) (changed : List ℕ → Bool) (p s : List FileTree) → CoversChanges bodies changed p s → (key : Key) → is_kept changed p s key ≡ true → having p key ≡ having s key
-having-same bodies changed p s c key k =
+pub having-same : (implementation : FileTree → List Key) (changed : List ℕ → Bool) (p s : List FileTree) → CoversChanges implementation changed p s → (key : Key) → is_kept changed p s key ≡ true → having p key ≡ having s key
+having-same implementation changed p s c key k =
     let both : (list_all (λ (d : Declaration). not (changed d.path)) (having p key) ≡ true) × (list_all (λ (d : Declaration). not (changed d.path)) (having s key) ≡ true) = both-true _ _ k in
     sym (filter-all _ (having p key) both.0) ∙ having-outside changed p s c.same key ∙ filter-all _ (having s key) both.1
 
@@ -158,47 +158,47 @@ not-false : (b : Bool) → not b ≡ true → b ≡ false
 not-false true h = absurd cc
 not-false false h = refl
 
-traced-same : {B : Type 0} (bodies : FileTree → Query B) (changed : List ℕ → Bool) (p s : List FileTree) → ((k : Key) → IsPlain (meaning_in p k)) → ReadingsAskKeys → PrintsFixMeanings p s → PrintsAreLines p → PrintsAreLines s → CoversChanges bodies changed p s →
+traced-same : (implementation : FileTree → List Key) (changed : List ℕ → Bool) (p s : List FileTree) → ((k : Key) → IsPlain (meaning_in p k)) → ReadingsAskKeys → PrintsFixMeanings p s → PrintsAreLines p → PrintsAreLines s → CoversChanges implementation changed p s →
     (k : Key) → list_all (λ (d : Declaration). not (changed d.path)) (having p k) ≡ true → (u : Key) → Among (dependencies (meaning_in p) (given_by k (having p k))) u → is_kept changed p s u ≡ false → meaning_in p u ≡ meaning_in s u
-traced-same bodies changed p s plain asks fix lp ls c k o u m n =
+traced-same implementation changed p s plain asks fix lp ls c k o u m n =
     traced-given changed p s plain asks fix lp ls k (having p k) (λ d md.
     let r = in-file p k d md in
     let free : changed d.path ≡ false = not-false _ (all-in (λ (d : Declaration). not (changed d.path)) (having p k) o d md) in
     λ u w. c.traced r.0 r.1 (ap changed (sym (file-path r.0 d r.2)) ∙ free) u (inl (record { declaration = d; declared = r.2; key = k; has = r.3; uses = reading-used (meaning_in p) k d u w }))) u m n
 
 -- the rules of both projects agree on the kept keys
-agrees : {B : Type 0} (bodies : FileTree → Query B) (changed : List ℕ → Bool) (p s : List FileTree) → ((k : Key) → IsPlain (meaning_in p k)) → ReadingsAskKeys → PrintsFixMeanings p s → PrintsAreLines p → PrintsAreLines s → CoversChanges bodies changed p s →
+agrees : (implementation : FileTree → List Key) (changed : List ℕ → Bool) (p s : List FileTree) → ((k : Key) → IsPlain (meaning_in p k)) → ReadingsAskKeys → PrintsFixMeanings p s → PrintsAreLines p → PrintsAreLines s → CoversChanges implementation changed p s →
     AgreesOutside (rules p) (rules s) (module_keys p) (module_keys s) (meaning_in p) (λ k. is_kept changed p s k ≡ true)
-agrees bodies changed p s plain asks fix lp ls c = record {
+agrees implementation changed p s plain asks fix lp ls c = record {
   nothing = refl;
-  has = λ k o. ap is_filled (having-same bodies changed p s c k o);
-  means = λ k o. ap (given_by k) (having-same bodies changed p s c k o);
+  has = λ k o. ap is_filled (having-same implementation changed p s c k o);
+  means = λ k o. ap (given_by k) (having-same implementation changed p s c k o);
   answered = meaning-known p;
   uses = λ k o u m.
       (elim (is_kept changed p s u) as (λ v. is_kept changed p s u ≡ v → (is_kept changed p s u ≡ true) ⊎ (seen (rules p) (solution (rules p) (module_keys p)) u ≡ seen (rules s) (solution (rules s) (module_keys s)) u)) [
         | true ↦ λ e. inl e
-        | false ↦ λ e. inr (solution-meaning p u ∙ ap known_answer (traced-same bodies changed p s plain asks fix lp ls c k (both-true _ _ o).0 u m e) ∙ sym (solution-meaning s u))
+        | false ↦ λ e. inr (solution-meaning p u ∙ ap known_answer (traced-same implementation changed p s plain asks fix lp ls c k (both-true _ _ o).0 u m e) ∙ sym (solution-meaning s u))
       ]) refl;
 }
 
 -- Coverage of meanings.
-pub kept-means : {B : Type 0} (bodies : FileTree → Query B) (changed : List ℕ → Bool) (p s : List FileTree) → ((k : Key) → IsPlain (meaning_in p k)) → ReadingsAskKeys → PrintsFixMeanings p s → PrintsAreLines p → PrintsAreLines s → CoversChanges bodies changed p s → KeptKeysMeanTheSame changed p s
+pub kept-means : (implementation : FileTree → List Key) (changed : List ℕ → Bool) (p s : List FileTree) → ((k : Key) → IsPlain (meaning_in p k)) → ReadingsAskKeys → PrintsFixMeanings p s → PrintsAreLines p → PrintsAreLines s → CoversChanges implementation changed p s → KeptKeysMeanTheSame changed p s
 unfolding meaning_in
-kept-means bodies changed p s plain asks fix lp ls c k o =
+kept-means implementation changed p s plain asks fix lp ls c k o =
     ap (known_or means.Circular) (sym (solution-seen (rules p) (module_keys p) (listing p) k)
-    ∙ covered (rules p) (rules s) (module_keys p) (module_keys s) (meaning_in p) (λ k. is_kept changed p s k ≡ true) (listing p) (listing s) (agrees bodies changed p s plain asks fix lp ls c) k o
+    ∙ covered (rules p) (rules s) (module_keys p) (module_keys s) (meaning_in p) (λ k. is_kept changed p s k ≡ true) (listing p) (listing s) (agrees implementation changed p s plain asks fix lp ls c) k o
     ∙ solution-seen (rules s) (module_keys s) (listing s) k)
 
 -- what a query asks has the same meanings
-asked-same : {B : Type 0} (bodies : FileTree → Query B) (changed : List ℕ → Bool) (p s : List FileTree) → ((k : Key) → IsPlain (meaning_in p k)) → ReadingsAskKeys → PrintsFixMeanings p s → PrintsAreLines p → PrintsAreLines s → CoversChanges bodies changed p s →
+pub asked-same : (implementation : FileTree → List Key) (changed : List ℕ → Bool) (p s : List FileTree) → ((k : Key) → IsPlain (meaning_in p k)) → ReadingsAskKeys → PrintsFixMeanings p s → PrintsAreLines p → PrintsAreLines s → CoversChanges implementation changed p s →
     (u : Key) → is_asked_kind u.kind ≡ true → IsUnmoved changed p s u → meaning_in p u ≡ meaning_in s u
-asked-same bodies changed p s plain asks fix lp ls c u a unmoved =
+asked-same implementation changed p s plain asks fix lp ls c u a unmoved =
     (elim (is_kept changed p s u) as (λ v. is_kept changed p s u ≡ v → meaning_in p u ≡ meaning_in s u) [
-      | true ↦ λ e. kept-means bodies changed p s plain asks fix lp ls c u e
+      | true ↦ λ e. kept-means implementation changed p s plain asks fix lp ls c u e
       | false ↦ λ e. unmoved-same changed p s fix lp ls u a unmoved e
     ]) refl
 
--- querys whose answers are the same agree
+-- queries whose answers are the same agree
 pub agreeing : {X : Type 0} (m n : Key → Meaning) (q : Query X) → ((u : Key) → Among (dependencies m q) u → m u ≡ n u) → (value_with m q ≡ value_with n q) × (dependencies m q ≡ dependencies n q)
 agreeing m n (Done x) h = (refl, refl)
 agreeing {X} m n (Fetch k g) h =
@@ -207,9 +207,9 @@ agreeing {X} m n (Fetch k g) h =
     (rest.0 ∙ ap (λ a. value_with n (g a)) here, ap (λ l. k ∷ l) (rest.1 ∙ ap (λ a. dependencies n (g a)) here))
 
 -- Coverage of all that is read of a file.
-pub queries-agree : {B : Type 0} (X : Type 0) (bodies : FileTree → Query B) (changed : List ℕ → Bool) (p s : List FileTree) → ((k : Key) → IsPlain (meaning_in p k)) → ReadingsAskKeys → PrintsFixMeanings p s → PrintsAreLines p → PrintsAreLines s → CoversChanges bodies changed p s → QueriesAgree X bodies changed p s
-queries-agree X bodies changed p s plain asks fix lp ls c q f m free a uses =
-    agreeing (meaning_in p) (meaning_in s) q (λ u w. asked-same bodies changed p s plain asks fix lp ls c u (asked-kind (meaning_in p) plain q a u w) (c.traced f m free u (uses u w)))
+pub queries-agree : (X : Type 0) (implementation : FileTree → List Key) (changed : List ℕ → Bool) (p s : List FileTree) → ((k : Key) → IsPlain (meaning_in p k)) → ReadingsAskKeys → PrintsFixMeanings p s → PrintsAreLines p → PrintsAreLines s → CoversChanges implementation changed p s → QueriesAgree X implementation changed p s
+queries-agree X implementation changed p s plain asks fix lp ls c q f m free a uses =
+    agreeing (meaning_in p) (meaning_in s) q (λ u w. asked-same implementation changed p s plain asks fix lp ls c u (asked-kind (meaning_in p) plain q a u w) (c.traced f m free u (uses u w)))
 
 asks-bind : {X Y : Type 0} (q : Query X) (f : X → Query Y) → AsksKeys q → ((x : X) → AsksKeys (f x)) → AsksKeys (q >>= f)
 asks-bind q f a h = sound-then Anything Anything q f a (λ x _. h x)
@@ -227,7 +227,7 @@ node-asks asks key d = (elim key.kind as (λ kind. (kind ≡ key.kind) → ((pat
 ]) refl (λ path item. asks path key item)
 
 -- Coverage of nodes: each definition of a file that hasn't changed has the same print and uses in both.
-pub nodes-agree : {B : Type 0} (bodies : FileTree → Query B) (changed : List ℕ → Bool) (p s : List FileTree) → ((k : Key) → IsPlain (meaning_in p k)) → ReadingsAskKeys → PrintsFixMeanings p s → PrintsAreLines p → PrintsAreLines s → CoversChanges bodies changed p s → NodesAgree changed p s
-nodes-agree bodies changed p s plain asks fix lp ls c f m free d md key mk =
-    queries-agree (List ℕ) bodies changed p s plain asks fix lp ls c (node_query key d) f m free (node-asks asks key d)
+pub nodes-agree : (implementation : FileTree → List Key) (changed : List ℕ → Bool) (p s : List FileTree) → ((k : Key) → IsPlain (meaning_in p k)) → ReadingsAskKeys → PrintsFixMeanings p s → PrintsAreLines p → PrintsAreLines s → CoversChanges implementation changed p s → NodesAgree changed p s
+nodes-agree implementation changed p s plain asks fix lp ls c f m free d md key mk =
+    queries-agree (List ℕ) implementation changed p s plain asks fix lp ls c (node_query key d) f m free (node-asks asks key d)
     (λ u w. inl (record { declaration = d; declared = md; key = key; has = mk; uses = w }))

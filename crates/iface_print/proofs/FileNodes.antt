@@ -10,7 +10,7 @@ use Rattle.queries.proofs.Values.{value-bind}
 use Rattle.swift_ast.specs.declared.declarations.FileTree.{FileTree}
 use Rattle.decl_index.specs.Declarations.{Declaration}
 use Rattle.type_rules.specs.declared.meaning.Meaning.{Meaning}
-use Rattle.type_infer.specs.Readings.{Query, definition_query}
+use Rattle.type_infer.specs.Readings.{definition_query}
 use Rattle.type_infer.specs.Meanings.{having, meaning_in}
 use Rattle.type_infer.proofs.ListFacts.{kept-from}
 use Rattle.iface_print.specs.Prints.{print_of, print_in, lines_of, is_in, text_for_kind}
@@ -49,9 +49,9 @@ map-same f g (x ∷ xs) h =
     λ i. head i ∷ tail i
 
 -- Each key has the same print in a file that hasn't changed.
-pub prints-agree : {B : Type 0} (bodies : FileTree → Query B) (changed : List ℕ → Bool) (p s : List FileTree) → CoversChanges bodies changed p s → NodesAgree changed p s → PrintsAgree changed p s
+pub prints-agree : (implementation : FileTree → List Key) (changed : List ℕ → Bool) (p s : List FileTree) → CoversChanges implementation changed p s → NodesAgree changed p s → PrintsAgree changed p s
 unfolding print_in
-prints-agree bodies changed p s c nodes path free key =
+prints-agree implementation changed p s c nodes path free key =
     let t = is_in path in
     let out = λ (d : Declaration). not (changed d.path) in
     let kept : (d : Declaration) → t d ≡ true → out d ≡ true = λ d h. (let same : d.path ≡ path = (bytes_decides d.path path).0 h in ap not (ap changed same ∙ free)) in

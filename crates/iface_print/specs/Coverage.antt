@@ -8,7 +8,7 @@ use Rattle.decl_index.specs.Declarations.{Declaration, declarations_in}
 use Rattle.type_infer.specs.Readings.{Query}
 use Rattle.type_infer.specs.Meanings.{having, meaning_in, asked_in}
 use Rattle.type_infer.specs.Plain.{HasPlainNames}
-use Rattle.type_infer.specs.Sound.{AsksKeys}
+use Rattle.type_infer.specs.Sound.{AsksKeys, is_asked_kind}
 use Rattle.iface_print.specs.Prints.{print_in}
 use Rattle.iface_print.specs.Nodes.{node_query}
 
@@ -24,15 +24,15 @@ pub record IsDefinitionUse (files : List FileTree) (f : FileTree) (use_of : Key)
   pub has : Among declaration.keys key
   pub uses : Among (asked_in files (node_query key declaration)) use_of
 
--- A use of a file: of one of its definitions, or of its bodies, which are some query of the file.
-abbrev pub IsUse : {B : Type 0} → (FileTree → Query B) → List FileTree → FileTree → Key → Type 0
-IsUse bodies files f key = IsDefinitionUse files f key ⊎ Among (asked_in files (bodies f)) key
+-- A use of a file: of one of its definitions, or of its implementation, whose uses are some list of keys.
+abbrev pub IsUse : (FileTree → List Key) → List FileTree → FileTree → Key → Type 0
+IsUse implementation files f key = IsDefinitionUse files f key ⊎ Among (implementation f) key
 
 -- The files that may have changed have among them each file that isn't the same in both projects, and each that
 -- uses a key whose print one of them changed.
-pub record CoversChanges {B : Type 0} (bodies : FileTree → Query B) (changed : List ℕ → Bool) (p s : List FileTree) : Type 0 where
+pub record CoversChanges (implementation : FileTree → List Key) (changed : List ℕ → Bool) (p s : List FileTree) : Type 0 where
   pub same : filter (λ f. not (changed f.path)) p ≡ filter (λ f. not (changed f.path)) s
-  pub traced : (f : FileTree) → Among p f → changed f.path ≡ false → (key : Key) → IsUse bodies p f key → IsUnmoved changed p s key
+  pub traced : (f : FileTree) → Among p f → changed f.path ≡ false → (key : Key) → IsUse implementation p f key → IsUnmoved changed p s key
 
 -- no declaration of the key is in a file that may have changed
 abbrev pub is_kept : (List ℕ → Bool) → List FileTree → List FileTree → Key → Bool
@@ -43,10 +43,14 @@ is_kept changed p s key =
 abbrev pub KeptKeysMeanTheSame : (List ℕ → Bool) → List FileTree → List FileTree → Type 0
 KeptKeysMeanTheSame changed p s = (key : Key) → is_kept changed p s key ≡ true → meaning_in p key ≡ meaning_in s key
 
+-- A key of a kind that look-ups ask, which a file that hasn't changed uses, means the same in both.
+abbrev pub UsedKeysMeanTheSame : (FileTree → List Key) → (List ℕ → Bool) → List FileTree → List FileTree → Type 0
+UsedKeysMeanTheSame implementation changed p s = (f : FileTree) → Among p f → changed f.path ≡ false → (key : Key) → is_asked_kind key.kind ≡ true → IsUse implementation p f key → meaning_in p key ≡ meaning_in s key
+
 -- A query that asks only uses of a file that hasn't changed has the same value in both, and asks the same keys.
-abbrev pub QueriesAgree : {B : Type 0} → (X : Type 0) → (FileTree → Query B) → (List ℕ → Bool) → List FileTree → List FileTree → Type 0
-QueriesAgree X bodies changed p s = (query : Query X) (f : FileTree) → Among p f → changed f.path ≡ false → AsksKeys query →
-    ((key : Key) → Among (asked_in p query) key → IsUse bodies p f key) →
+abbrev pub QueriesAgree : (X : Type 0) → (FileTree → List Key) → (List ℕ → Bool) → List FileTree → List FileTree → Type 0
+QueriesAgree X implementation changed p s = (query : Query X) (f : FileTree) → Among p f → changed f.path ≡ false → AsksKeys query →
+    ((key : Key) → Among (asked_in p query) key → IsUse implementation p f key) →
     (value_with (meaning_in p) query ≡ value_with (meaning_in s) query) × (asked_in p query ≡ asked_in s query)
 
 -- Each definition of a file that hasn't changed has the same print and the same uses in both.
@@ -55,8 +59,8 @@ NodesAgree changed p s = (f : FileTree) → Among p f → changed f.path ≡ fal
     (value_with (meaning_in p) (node_query key d) ≡ value_with (meaning_in s) (node_query key d)) × (asked_in p (node_query key d) ≡ asked_in s (node_query key d))
 
 -- Coverage, over two modules with plain names.
-abbrev pub Covers : (B : Type 0) → ((FileTree → Query B) → (List ℕ → Bool) → List FileTree → List FileTree → Type 0) → Type 0
-Covers B Agree = (bodies : FileTree → Query B) (changed : List ℕ → Bool) (p s : List FileTree) → HasPlainNames p → HasPlainNames s → CoversChanges bodies changed p s → Agree bodies changed p s
+abbrev pub Covers : ((FileTree → List Key) → (List ℕ → Bool) → List FileTree → List FileTree → Type 0) → Type 0
+Covers Agree = (implementation : FileTree → List Key) (changed : List ℕ → Bool) (p s : List FileTree) → HasPlainNames p → HasPlainNames s → CoversChanges implementation changed p s → Agree implementation changed p s
 
 -- In a file that hasn't changed each key has the same print in both.
 abbrev pub PrintsAgree : (List ℕ → Bool) → List FileTree → List FileTree → Type 0

@@ -5,7 +5,7 @@
 //! is printed, `specs/Nodes.antt` what is used, `specs/Coverage.antt` what stays the same.
 #![tactic(auto)]
 
-ghost use Rattle.iface_print.specs.Coverage.{Covers, KeptKeysMeanTheSame, NodesAgree, PrintsAgree, QueriesAgree};
+ghost use Rattle.iface_print.specs.Coverage.{Covers, KeptKeysMeanTheSame, NodesAgree, PrintsAgree, QueriesAgree, UsedKeysMeanTheSame};
 ghost use Rattle.iface_print.specs.Examples.{CirclesAreCircular, ErrorsAreBroken, FieldsAreLaidOut};
 ghost use Rattle.iface_print.specs.Laws.{EachPrintIsALine, EqualPrintsMeanTheSame, NodesArePrints};
 
@@ -18,14 +18,15 @@ pub fn print_laws()
     ensures nodes { NodesArePrints }
 {}
 
-/// A file whose uses haven't moved comes to the same: its keys mean the same, its definitions print and use the same, and
-/// so does whatever is read of it that asks only uses of the file. `B` is the type of what is read of its bodies, `X` that of
-/// such a reading.
-pub fn coverage_laws<B, X>()
-    ensures kept { Covers B (λ bodies. KeptKeysMeanTheSame) }
-    ensures nodes { Covers B (λ bodies. NodesAgree) }
-    ensures prints { Covers B (λ bodies. PrintsAgree) }
-    ensures queries { Covers B (QueriesAgree X) }
+/// A file whose uses haven't moved comes to the same: the keys that no changed file declares mean the same, and so do the
+/// keys that it uses; its definitions print and use the same; and so does whatever is read of it that asks only uses of the
+/// file. `X` is the type of such a reading.
+pub fn coverage_laws<X>()
+    ensures kept { Covers (λ implementation. KeptKeysMeanTheSame) }
+    ensures used { Covers UsedKeysMeanTheSame }
+    ensures nodes { Covers (λ implementation. NodesAgree) }
+    ensures prints { Covers (λ implementation. PrintsAgree) }
+    ensures queries { Covers (QueriesAgree X) }
 {}
 
 /// What the keys of a small module mean, and how they are printed.
