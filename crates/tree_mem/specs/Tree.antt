@@ -1,11 +1,12 @@
 -- What a tree in memory tells, and what each change makes of it.
-use Rattle.std.specs.Prelude.{◌≡◌, ◌++◌, [], ◌∷◌, ℕ, Bool, true, List, length, None, ⊤}
-use Rattle.std.specs.FinMap.{empty}
-use Rattle.drv_outside.specs.Disk.{dropped}
+use Rattle.std.specs.Prelude.{◌≡◌, ◌++◌, [], ◌∷◌, ℕ, Bool, true, List, length, ⊤}
+use Rattle.std.specs.FinMap.{empty, entries, insert}
+use Rattle.drv_outside.specs.Disk.{dropped, left_by_crash}
 use Rattle.drv_outside.specs.TreeState.{TreeState, disk_of}
 use Rattle.drv_outside.specs.declared.types.Source.{Source}
 use Rattle.drv_outside.specs.declared.types.Stamp.{Stamp}
 use Rattle.tree_mem.specs.Disk.{disk_now, earlier_disks}
+use Rattle.tree_mem.specs.Failures.{failing, no_failures, settings_of, stopping_after}
 use Rattle.tree_mem.specs.MemSources.{sources_of}
 use Rattle.tree_mem.specs.Sources.{with_source, without_source}
 use Rattle.tree_mem.specs.declared.tree.MemTree.{MemTree}
@@ -15,7 +16,7 @@ use Rattle.tree_mem.specs.declared.tree.PutEnd.TheVariants.{StampReused, NoMemor
 abbrev pub state_of : MemTree → TreeState
 state_of m = record {
   sources = sources_of m.sources;
-  maps = empty;
+  maps = m.maps;
   book = m.book.items;
   folder = (disk_now m.disk).folder;
   doubts = (disk_now m.disk).doubts;
@@ -23,7 +24,7 @@ state_of m = record {
   calls = m.calls.items;
   failed = m.failed.items;
   failed_calls_change_nothing = true;
-  settings = record { fail_calls = m.fail_calls.items; fail_calls_since = m.fail_calls_since; stop_after = None; stop_after_since = 0 };
+  settings = settings_of m.failures;
 }
 
 -- how often a call has failed
@@ -50,7 +51,7 @@ new_tree = record {
   calls = [];
   failed = [];
   failed_calls_change_nothing = true;
-  settings = record { fail_calls = []; fail_calls_since = 0; stop_after = None; stop_after_since = 0 };
+  settings = no_failures;
 }
 
 -- once a source is put
@@ -67,7 +68,25 @@ with_dropped name t = record t { folder = (dropped name (disk_of t)).folder; dou
 
 -- once the calls with these numbers, counted from now on, are to fail
 abbrev pub with_failures : List ℕ → TreeState → TreeState
-with_failures numbers t = record t { settings = record { fail_calls = numbers; fail_calls_since = length t.calls; stop_after = t.settings.stop_after; stop_after_since = t.settings.stop_after_since } }
+with_failures numbers t = record t { settings = failing numbers (length t.calls) t.settings }
+
+-- once every call is to fail when so many have passed, counted from now on
+abbrev pub with_stop : ℕ → TreeState → TreeState
+with_stop calls t = record t { settings = stopping_after calls (length t.calls) t.settings }
+
+-- once an output file map is set
+abbrev pub with_map : List ℕ → List ℕ → TreeState → TreeState
+with_map path bytes t = record t { maps = insert t.maps path bytes }
+
+-- Once the machine crashed, with this choice for the names in doubt: what the crash left is settled,
+-- no call is to fail, and of earlier moments nothing is told any more.
+abbrev pub with_crash : ℕ → TreeState → TreeState
+with_crash choice t = record t {
+  folder = left_by_crash choice (entries t.doubts) t.folder;
+  doubts = empty;
+  earlier = [];
+  settings = no_failures;
+}
 
 -- An answer that a stamp is reused names the path and the stamp, and comes only where it is.
 abbrev pub TellsReuse : PutEnd → List ℕ → Stamp → Bool → Type 0

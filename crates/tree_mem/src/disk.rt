@@ -1,11 +1,12 @@
-ghost use Rattle.std.specs.Prelude.{◌≡◌, ◌++◌, [], ◌∷◌, cond, All, IsTrue, IfOk, OnOk, OnErr, is_some, option_copied};
+ghost use Rattle.std.specs.Prelude.{◌≡◌, ◌++◌, [], ◌∷◌, cond, All, IsTrue, IfOk, OnOk, OnErr, is_some};
 ghost use Rattle.std.specs.FinMap as finite;
-ghost use Rattle.drv_outside.specs.Disk.{after, dropped, settled, doubted};
+ghost use Rattle.drv_outside.specs.Disk.{after, dropped, settled, doubted, left_by_crash};
 ghost use Rattle.drv_outside.specs.Plain.{is_plain_name};
 ghost use Rattle.drv_outside.specs.declared.types.Call.{Call};
 ghost use Rattle.tree_mem.specs.declared.disk.Change.{Change};
 ghost use Rattle.tree_mem.specs.Disk.{after_doubt, disk_now, earlier_disks};
 
+use crate::copies::copied;
 use crate::doubts::MemDoubts;
 use crate::folder::MemFolder;
 use drv_outside::{Name, Text};
@@ -90,6 +91,7 @@ impl MemDisk {
 
     /// Removes a file. Its name comes into doubt.
     pub fn remove(&mut self, name: &Name) -> Result<(), AllocError>
+        requires plain { IsTrue (is_plain_name name.now) }
         ensures disk { OnOk result (disk_now self.new ≡ after (Call.Remove name.now) (disk_now self.old)) }
         ensures earlier { OnOk result (earlier_disks self.new ≡ earlier_disks self.old ++ disk_now self.old ∷ []) }
         ensures err { OnErr result (earlier_disks self.new ≡ earlier_disks self.old) }
@@ -105,6 +107,7 @@ impl MemDisk {
 
     /// A name comes into doubt, as a call to write or remove it fails.
     pub fn doubt(&mut self, name: &Name) -> Result<(), AllocError>
+        requires plain { IsTrue (is_plain_name name.now) }
         ensures disk { OnOk result (disk_now self.new ≡ after_doubt name.now (disk_now self.old)) }
         ensures earlier { OnOk result (earlier_disks self.new ≡ earlier_disks self.old ++ disk_now self.old ∷ []) }
         ensures err { OnErr result (earlier_disks self.new ≡ earlier_disks self.old) }
@@ -127,6 +130,22 @@ impl MemDisk {
         self.changes.clear();
         self.doubts.remove_named(name);
         self.folder.remove_named(name)
+    }
+
+    /// A crash leaves one of the images, by a base-4 digit of the choice for each name in doubt. All is
+    /// settled then, and of earlier moments nothing is told any more. A refusal changes nothing.
+    pub fn crash(&mut self, choice: u64) -> Result<(), AllocError>
+        ensures disk { OnOk result (disk_now self.new ≡ settled (left_by_crash choice (finite.entries (disk_now self.old).doubts) (disk_now self.old).folder)) }
+        ensures earlier { OnOk result (earlier_disks self.new ≡ []) }
+        ensures err { OnErr result (earlier_disks self.new ≡ earlier_disks self.old) }
+        ensures same { OnErr result (disk_now self.new ≡ disk_now self.old) }
+    {
+        let copy = self.folder.copy()?;
+        let left = self.doubts.left_by_crash(self.alloc, copy, choice)?;
+        self.folder = left;
+        self.doubts = MemDoubts::new(self.alloc);
+        self.changes.clear();
+        Ok(())
     }
 
     /// The names, in byte order.
@@ -161,17 +180,9 @@ fn change_of(folder: &MemFolder, doubts: &MemDoubts, name: &Name) -> Result<Chan
     })
 }
 
-fn copied(found: Option<&Text>) -> Result<Option<Text>, AllocError>
-    ensures { IfOk result (λ copy. copy ≡ option_copied found.entry) }
-{
-    match found {
-        Some(bytes) => Ok(Some(bytes.clone()?)),
-        None => Ok(None),
-    }
-}
-
 // A name comes into doubt.
 fn enter(doubts: &mut MemDoubts, folder: &MemFolder, name: &Name) -> Result<(), AllocError>
+    requires plain { IsTrue (is_plain_name name.now) }
     ensures ok { OnOk result (doubts.new ≡ doubted (record { folder = folder.now; doubts = doubts.old }) name.now) }
     ensures err { OnErr result (doubts.new ≡ doubts.old) }
 {

@@ -1,15 +1,23 @@
-ghost use Rattle.std.specs.Prelude.{◌≡◌, OnOk, OnErr, is_some};
+ghost use Rattle.std.specs.Prelude.{◌≡◌, All, IsTrue, IfOk, OnOk, OnErr, is_some};
+ghost use Rattle.std.specs.BTreeMap.{keys};
 ghost use Rattle.std.specs.FinMap as finite;
+ghost use Rattle.drv_outside.specs.Disk.{left_by_crash};
+ghost use Rattle.drv_outside.specs.Plain.{is_plain_name};
 
+use crate::folder::MemFolder;
 use drv_outside::{Name, Text};
 use std::alloc::{AllocError, Global};
 use std::collections::BTreeMap;
 use std::marker::Model;
 
-/// The names in doubt, each with what it had when it was last settled.
+// The base in which a crash's choice has a digit for each name in doubt.
+const BASE: u64 = 4;
+
+/// The names in doubt, each with what it had when it was last settled. All names are plain.
 #[derive(Drop)]
 pub struct MemDoubts {
     names: BTreeMap<Name, Option<Text>>,
+    ghost plain: { All (λ name. IsTrue (is_plain_name name)) (keys names) },
 }
 
 impl Model for MemDoubts {
@@ -36,6 +44,7 @@ impl MemDoubts {
     }
 
     pub fn insert(&mut self, name: Name, was: Option<Text>) -> Result<(), AllocError>
+        requires plain { IsTrue (is_plain_name name) }
         ensures ok { OnOk result (self.new ≡ finite.insert self.old name was) }
         ensures err { OnErr result (self.new ≡ self.old) }
     {
@@ -60,5 +69,24 @@ impl MemDoubts {
         ensures { result ≡ is_some (finite.get self.now name.now) }
     {
         self.names.contains_key(name)
+    }
+
+    /// What a crash leaves of a folder: for each name in doubt, in byte order, a digit of the choice
+    /// decides, least first.
+    pub fn left_by_crash(
+        &self,
+        alloc: Global,
+        folder: MemFolder,
+        choice: u64,
+    ) -> Result<MemFolder, AllocError>
+        ensures { IfOk result (λ left. left ≡ left_by_crash choice (finite.entries self.now) folder) }
+    {
+        let mut left = folder;
+        let mut digits = choice;
+        for (name, was) in self.names.iter() {
+            left.leave(alloc, name, was, digits % BASE)?;
+            digits /= BASE;
+        }
+        Ok(left)
     }
 }
