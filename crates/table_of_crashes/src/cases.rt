@@ -89,12 +89,6 @@ pub const RUNS: [Run; 8] = [
     },
     Run {
         title: "a file that is dropped is in no doubt",
-        steps: &[
-            "write a.o one",
-            "drop a.o",
-            "drop a.o",
-            "crash 3",
-            "folder",
-        ],
+        steps: &["write a.o one", "drop a.o", "drop a.o", "crash 3", "folder"],
     },
 ];
