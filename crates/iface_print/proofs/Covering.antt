@@ -132,7 +132,7 @@ traced-given changed p s plain asks fix lp ls k (d ∷ []) t u m n =
 traced-given changed p s plain asks fix lp ls k (d ∷ e ∷ ds) t u m n = absurd m
 
 -- what a declaration's reading asks is a use of its node
-reading-used : (m : Key → Meaning) (k : Key) (d : Declaration) (u : Key) → Among (dependencies m (item_query d.path k d.item)) u → Among (dependencies m (node_query k d)) u
+pub reading-used : (m : Key → Meaning) (k : Key) (d : Declaration) (u : Key) → Among (dependencies m (item_query d.path k d.item)) u → Among (dependencies m (node_query k d)) u
 reading-used m k d u w = (elim k.kind as (λ kind. Among (dependencies m (query_by_kind kind d.path k d.item)) u → Among (dependencies m (node_by_kind kind k d)) u) [
   | TopLevel ↦ λ w. used w
   | Nominal ↦ λ w. used w

@@ -67,7 +67,7 @@ sound-hushed P (Fetch k g) s = (s.0, λ a p. sound-hushed P (g a) (s.1 a p))
 unfoldable pub AreSound : {X : Type 0} → (X → Type 0) → List (CheckOf X) → Type 0
 AreSound P cs = AllByRecursion (λ c. SoundCheck P c) cs
 
-one-more : {X : Type 0} (P : X → Type 0) (xs : List X) (x : X) → AllByRecursion P xs → P x → AllByRecursion P (xs ++ x ∷ [])
+pub one-more : {X : Type 0} (P : X → Type 0) (xs : List X) (x : X) → AllByRecursion P xs → P x → AllByRecursion P (xs ++ x ∷ [])
 one-more P [] x h g = (g, tt)
 one-more P (y ∷ xs) x h g = (h.0, one-more P xs x h.1 g)
 

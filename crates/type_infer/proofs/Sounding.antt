@@ -111,7 +111,7 @@ laid-out-as-sound t c (means.Struct d) h = h
 laid-out-as-sound t c (means.Alias of) h = h
 laid-out-as-sound t c (means.Fields fs w) h = h
 
-laid-out-sound : (t : Place) (of : Ty) → IsPlainType of → SoundCheck IsPlainType (laid_out t of)
+pub laid-out-sound : (t : Place) (of : Ty) → IsPlainType of → SoundCheck IsPlainType (laid_out t of)
 laid-out-sound t (ty.Struct c) h = (refl, λ m p. laid-out-as-sound t c m h)
 laid-out-sound t ty.Int h = tt
 laid-out-sound t ty.String h = tt
@@ -159,7 +159,7 @@ value-found-sound : (t : Leaf) (o : Option Found) → IfThere PlainFound o → S
 value-found-sound t None h = sound-choice (OfValue PlainNamed) (is_print t) _ _ tt tt
 value-found-sound t (Some f) h = sound-bind IsPlain PlainNamed (usable t f.1) _ (usable-sound t f.1 h) (λ m p. value-meant-sound t f.0 m p)
 
-abbrev PlainLocal : Local → Type 0
+abbrev pub PlainLocal : Local → Type 0
 PlainLocal l = IfThere IsPlainType l.ty
 
 beyond-sound : (s : Scope) (t : Leaf) (o : Option Local) → IfThere PlainLocal o → SoundCheck PlainNamed (named_beyond s t o)
@@ -178,7 +178,7 @@ local-plain : (bs : List (List Local)) (name : List ℕ) → AllByRecursion (λ 
 local-plain [] name h = tt
 local-plain (b ∷ bs) name h = else-plain (local_named bs name) (named_in b name) (local-plain bs name h.1) (named-plain b name h.0)
 
-name-of-sound : (s : Scope) (t : Leaf) → IsPlainScope s → SoundCheck PlainNamed (name_of s t)
+pub name-of-sound : (s : Scope) (t : Leaf) → IsPlainScope s → SoundCheck PlainNamed (name_of s t)
 name-of-sound s t p = beyond-sound s t (local_named s.blocks t.text) (local-plain s.blocks t.text p.locals)
 
 value-by-sound : (s : Scope) (at : Place) (of : Ty) (made : Ty → Step) → IsPlainType of → SoundCheck PlainTyped (value_by s at of made)
@@ -199,7 +199,7 @@ local-value-sound : (s : Scope) (t : Leaf) (n : ℕ) (o : Option Ty) → IfThere
 local-value-sound s t n None h = tt
 local-value-sound s t n (Some of) h = value-by-sound s (place_of t) of _ h
 
-name-value-sound : (s : Scope) (t : Leaf) (n : Named) → IsPlainScope s → PlainNamed n → SoundCheck PlainTyped (name_value s t n)
+pub name-value-sound : (s : Scope) (t : Leaf) (n : Named) → IsPlainScope s → PlainNamed n → SoundCheck PlainTyped (name_value s t n)
 name-value-sound s t (named.Local l) p h = local-value-sound s t l.number l.ty h
 name-value-sound s t (named.Global key mutable of) p h = value-by-sound s (place_of t) of _ h
 name-value-sound s t (named.OfSelf key mutable of) p h = sound-bind PlainTyped PlainTyped (self_value s t) _ (self-sound s t p) (λ base _. property-sound s (place_of t) base key of h)
@@ -275,7 +275,7 @@ PlainCallee (Takes receiver symbol params result) = IsPlainType result
 PlainCallee Prints = Unit {0}
 PlainCallee (IsValue of) = Unit {0}
 
-converted-sound : (first : Place) (wanted : Ty) (v : Typed) → SoundCheck Anything (converted first wanted v)
+pub converted-sound : (first : Place) (wanted : Ty) (v : Typed) → SoundCheck Anything (converted first wanted v)
 converted-sound first wanted v = sound-choice (OfValue Anything) (same_type v.ty wanted) (sure v) _ tt tt
 
 fitted-sound : (ps : List Parameter) (gs : List Given) → AreSound Anything (fitted ps gs)

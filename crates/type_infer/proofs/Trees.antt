@@ -9,7 +9,7 @@ use Rattle.swift_ast.specs.declared.expressions.Arg.{Arg, Arg-F, fold-roll-Arg, 
 use Rattle.swift_ast.specs.declared.expressions.Args.{Args, Args-F, fold-roll-Args, map-Args, roll-Args}
 use Rattle.swift_ast.specs.declared.expressions.Cmp.{Cmp, Cmp-F, fold-roll-Cmp, map-Cmp, roll-Cmp}
 use Rattle.swift_ast.specs.declared.expressions.Expr.{Expr, Expr-F, fold-roll-Expr, map-Expr, roll-Expr, ind-Expr}
-use Rattle.swift_ast.specs.declared.expressions.Postfix.{Postfix, Postfix-F, fold-roll-Postfix, map-Postfix, roll-Postfix}
+use Rattle.swift_ast.specs.declared.expressions.Postfix.{Postfix, Postfix-F, fold-roll-Postfix, map-Postfix, roll-Postfix, ind-Postfix}
 use Rattle.swift_ast.specs.declared.expressions.Prefix.{Prefix, Prefix-F, fold-roll-Prefix, map-Prefix, roll-Prefix}
 use Rattle.swift_ast.specs.declared.expressions.Product.{Product, Product-F, fold-roll-Product, map-Product, roll-Product}
 use Rattle.swift_ast.specs.declared.expressions.Sum.{Sum, Sum-F, fold-roll-Sum, map-Sum, roll-Sum}
@@ -182,6 +182,22 @@ sum-step s pl y = chain-sound s (product_phrase y.first.0) _ y.first.1 (more-ope
 trees-sound : (s : Scope) → IsPlainScope s → (e : Expr) → SoundPhrase s (expr_phrase e)
 unfolding atom_opening part_meant and_phrase arg_meant args_meant cmp_phrase expr_phrase postfix_phrase prefix_phrase product_phrase sum_phrase
 trees-sound s pl = ind-Expr (λ x. SoundOpening s (atom_opening x)) (λ x. SoundPart s (part_meant x)) (λ x. SoundPhrase s (and_phrase x)) (λ x. SoundArgument s (arg_meant x)) (λ x. SoundArguments s (args_meant x)) (λ x. SoundPhrase s (cmp_phrase x)) (λ x. SoundPhrase s (expr_phrase x)) (λ x. SoundPhrase s (postfix_phrase x)) (λ x. SoundPhrase s (prefix_phrase x)) (λ x. SoundPhrase s (product_phrase x)) (λ x. SoundPhrase s (sum_phrase x))
+    (λ x y is. subst (λ z. SoundOpening s (atom_opening (roll-Atom z))) is (subst (SoundOpening s) (sym (fold-roll-Atom Opening Part Phrase Argument (List Argument) Phrase Phrase Phrase Phrase Phrase Phrase one_atom one_part one_and one_arg one_args one_cmp one_expr one_postfix one_prefix one_product one_sum (map-Atom (WithAtom s) (WithPostfixPart s) (WithAnd s) (WithArg s) (WithArgs s) (WithCmp s) (WithExpr s) (WithPostfix s) (WithPrefix s) (WithProduct s) (WithSum s) Atom PostfixPart And Arg Args Cmp Expr Postfix Prefix Product Sum (λ e. e.0) (λ e. e.0) (λ e. e.0) (λ e. e.0) (λ e. e.0) (λ e. e.0) (λ e. e.0) (λ e. e.0) (λ e. e.0) (λ e. e.0) (λ e. e.0) y))) (atom-step s pl y)))
+    (λ x y is. subst (λ z. SoundPart s (part_meant (roll-PostfixPart z))) is (subst (SoundPart s) (sym (fold-roll-PostfixPart Opening Part Phrase Argument (List Argument) Phrase Phrase Phrase Phrase Phrase Phrase one_atom one_part one_and one_arg one_args one_cmp one_expr one_postfix one_prefix one_product one_sum (map-PostfixPart (WithAtom s) (WithPostfixPart s) (WithAnd s) (WithArg s) (WithArgs s) (WithCmp s) (WithExpr s) (WithPostfix s) (WithPrefix s) (WithProduct s) (WithSum s) Atom PostfixPart And Arg Args Cmp Expr Postfix Prefix Product Sum (λ e. e.0) (λ e. e.0) (λ e. e.0) (λ e. e.0) (λ e. e.0) (λ e. e.0) (λ e. e.0) (λ e. e.0) (λ e. e.0) (λ e. e.0) (λ e. e.0) y))) (part-step s pl y)))
+    (λ x y is. subst (λ z. SoundPhrase s (and_phrase (roll-And z))) is (subst (SoundPhrase s) (sym (fold-roll-And Opening Part Phrase Argument (List Argument) Phrase Phrase Phrase Phrase Phrase Phrase one_atom one_part one_and one_arg one_args one_cmp one_expr one_postfix one_prefix one_product one_sum (map-And (WithAtom s) (WithPostfixPart s) (WithAnd s) (WithArg s) (WithArgs s) (WithCmp s) (WithExpr s) (WithPostfix s) (WithPrefix s) (WithProduct s) (WithSum s) Atom PostfixPart And Arg Args Cmp Expr Postfix Prefix Product Sum (λ e. e.0) (λ e. e.0) (λ e. e.0) (λ e. e.0) (λ e. e.0) (λ e. e.0) (λ e. e.0) (λ e. e.0) (λ e. e.0) (λ e. e.0) (λ e. e.0) y))) (and-step s pl y)))
+    (λ x y is. subst (λ z. SoundArgument s (arg_meant (roll-Arg z))) is (subst (SoundArgument s) (sym (fold-roll-Arg Opening Part Phrase Argument (List Argument) Phrase Phrase Phrase Phrase Phrase Phrase one_atom one_part one_and one_arg one_args one_cmp one_expr one_postfix one_prefix one_product one_sum (map-Arg (WithAtom s) (WithPostfixPart s) (WithAnd s) (WithArg s) (WithArgs s) (WithCmp s) (WithExpr s) (WithPostfix s) (WithPrefix s) (WithProduct s) (WithSum s) Atom PostfixPart And Arg Args Cmp Expr Postfix Prefix Product Sum (λ e. e.0) (λ e. e.0) (λ e. e.0) (λ e. e.0) (λ e. e.0) (λ e. e.0) (λ e. e.0) (λ e. e.0) (λ e. e.0) (λ e. e.0) (λ e. e.0) y))) (arg-step s pl y)))
+    (λ x y is. subst (λ z. SoundArguments s (args_meant (roll-Args z))) is (subst (SoundArguments s) (sym (fold-roll-Args Opening Part Phrase Argument (List Argument) Phrase Phrase Phrase Phrase Phrase Phrase one_atom one_part one_and one_arg one_args one_cmp one_expr one_postfix one_prefix one_product one_sum (map-Args (WithAtom s) (WithPostfixPart s) (WithAnd s) (WithArg s) (WithArgs s) (WithCmp s) (WithExpr s) (WithPostfix s) (WithPrefix s) (WithProduct s) (WithSum s) Atom PostfixPart And Arg Args Cmp Expr Postfix Prefix Product Sum (λ e. e.0) (λ e. e.0) (λ e. e.0) (λ e. e.0) (λ e. e.0) (λ e. e.0) (λ e. e.0) (λ e. e.0) (λ e. e.0) (λ e. e.0) (λ e. e.0) y))) (args-step s pl y)))
+    (λ x y is. subst (λ z. SoundPhrase s (cmp_phrase (roll-Cmp z))) is (subst (SoundPhrase s) (sym (fold-roll-Cmp Opening Part Phrase Argument (List Argument) Phrase Phrase Phrase Phrase Phrase Phrase one_atom one_part one_and one_arg one_args one_cmp one_expr one_postfix one_prefix one_product one_sum (map-Cmp (WithAtom s) (WithPostfixPart s) (WithAnd s) (WithArg s) (WithArgs s) (WithCmp s) (WithExpr s) (WithPostfix s) (WithPrefix s) (WithProduct s) (WithSum s) Atom PostfixPart And Arg Args Cmp Expr Postfix Prefix Product Sum (λ e. e.0) (λ e. e.0) (λ e. e.0) (λ e. e.0) (λ e. e.0) (λ e. e.0) (λ e. e.0) (λ e. e.0) (λ e. e.0) (λ e. e.0) (λ e. e.0) y))) (cmp-step s pl y)))
+    (λ x y is. subst (λ z. SoundPhrase s (expr_phrase (roll-Expr z))) is (subst (SoundPhrase s) (sym (fold-roll-Expr Opening Part Phrase Argument (List Argument) Phrase Phrase Phrase Phrase Phrase Phrase one_atom one_part one_and one_arg one_args one_cmp one_expr one_postfix one_prefix one_product one_sum (map-Expr (WithAtom s) (WithPostfixPart s) (WithAnd s) (WithArg s) (WithArgs s) (WithCmp s) (WithExpr s) (WithPostfix s) (WithPrefix s) (WithProduct s) (WithSum s) Atom PostfixPart And Arg Args Cmp Expr Postfix Prefix Product Sum (λ e. e.0) (λ e. e.0) (λ e. e.0) (λ e. e.0) (λ e. e.0) (λ e. e.0) (λ e. e.0) (λ e. e.0) (λ e. e.0) (λ e. e.0) (λ e. e.0) y))) (expr-step s pl y)))
+    (λ x y is. subst (λ z. SoundPhrase s (postfix_phrase (roll-Postfix z))) is (subst (SoundPhrase s) (sym (fold-roll-Postfix Opening Part Phrase Argument (List Argument) Phrase Phrase Phrase Phrase Phrase Phrase one_atom one_part one_and one_arg one_args one_cmp one_expr one_postfix one_prefix one_product one_sum (map-Postfix (WithAtom s) (WithPostfixPart s) (WithAnd s) (WithArg s) (WithArgs s) (WithCmp s) (WithExpr s) (WithPostfix s) (WithPrefix s) (WithProduct s) (WithSum s) Atom PostfixPart And Arg Args Cmp Expr Postfix Prefix Product Sum (λ e. e.0) (λ e. e.0) (λ e. e.0) (λ e. e.0) (λ e. e.0) (λ e. e.0) (λ e. e.0) (λ e. e.0) (λ e. e.0) (λ e. e.0) (λ e. e.0) y))) (postfix-step s pl y)))
+    (λ x y is. subst (λ z. SoundPhrase s (prefix_phrase (roll-Prefix z))) is (subst (SoundPhrase s) (sym (fold-roll-Prefix Opening Part Phrase Argument (List Argument) Phrase Phrase Phrase Phrase Phrase Phrase one_atom one_part one_and one_arg one_args one_cmp one_expr one_postfix one_prefix one_product one_sum (map-Prefix (WithAtom s) (WithPostfixPart s) (WithAnd s) (WithArg s) (WithArgs s) (WithCmp s) (WithExpr s) (WithPostfix s) (WithPrefix s) (WithProduct s) (WithSum s) Atom PostfixPart And Arg Args Cmp Expr Postfix Prefix Product Sum (λ e. e.0) (λ e. e.0) (λ e. e.0) (λ e. e.0) (λ e. e.0) (λ e. e.0) (λ e. e.0) (λ e. e.0) (λ e. e.0) (λ e. e.0) (λ e. e.0) y))) (prefix-step s pl y)))
+    (λ x y is. subst (λ z. SoundPhrase s (product_phrase (roll-Product z))) is (subst (SoundPhrase s) (sym (fold-roll-Product Opening Part Phrase Argument (List Argument) Phrase Phrase Phrase Phrase Phrase Phrase one_atom one_part one_and one_arg one_args one_cmp one_expr one_postfix one_prefix one_product one_sum (map-Product (WithAtom s) (WithPostfixPart s) (WithAnd s) (WithArg s) (WithArgs s) (WithCmp s) (WithExpr s) (WithPostfix s) (WithPrefix s) (WithProduct s) (WithSum s) Atom PostfixPart And Arg Args Cmp Expr Postfix Prefix Product Sum (λ e. e.0) (λ e. e.0) (λ e. e.0) (λ e. e.0) (λ e. e.0) (λ e. e.0) (λ e. e.0) (λ e. e.0) (λ e. e.0) (λ e. e.0) (λ e. e.0) y))) (product-step s pl y)))
+    (λ x y is. subst (λ z. SoundPhrase s (sum_phrase (roll-Sum z))) is (subst (SoundPhrase s) (sym (fold-roll-Sum Opening Part Phrase Argument (List Argument) Phrase Phrase Phrase Phrase Phrase Phrase one_atom one_part one_and one_arg one_args one_cmp one_expr one_postfix one_prefix one_product one_sum (map-Sum (WithAtom s) (WithPostfixPart s) (WithAnd s) (WithArg s) (WithArgs s) (WithCmp s) (WithExpr s) (WithPostfix s) (WithPrefix s) (WithProduct s) (WithSum s) Atom PostfixPart And Arg Args Cmp Expr Postfix Prefix Product Sum (λ e. e.0) (λ e. e.0) (λ e. e.0) (λ e. e.0) (λ e. e.0) (λ e. e.0) (λ e. e.0) (λ e. e.0) (λ e. e.0) (λ e. e.0) (λ e. e.0) y))) (sum-step s pl y)))
+
+-- and so of what may be called
+pub postfix-sound : (s : Scope) → IsPlainScope s → (x : Postfix) → SoundCheck PlainTyped ((postfix_phrase x).check s)
+unfolding atom_opening part_meant and_phrase arg_meant args_meant cmp_phrase expr_phrase postfix_phrase prefix_phrase product_phrase sum_phrase
+postfix-sound s pl = ind-Postfix (λ x. SoundOpening s (atom_opening x)) (λ x. SoundPart s (part_meant x)) (λ x. SoundPhrase s (and_phrase x)) (λ x. SoundArgument s (arg_meant x)) (λ x. SoundArguments s (args_meant x)) (λ x. SoundPhrase s (cmp_phrase x)) (λ x. SoundPhrase s (expr_phrase x)) (λ x. SoundPhrase s (postfix_phrase x)) (λ x. SoundPhrase s (prefix_phrase x)) (λ x. SoundPhrase s (product_phrase x)) (λ x. SoundPhrase s (sum_phrase x))
     (λ x y is. subst (λ z. SoundOpening s (atom_opening (roll-Atom z))) is (subst (SoundOpening s) (sym (fold-roll-Atom Opening Part Phrase Argument (List Argument) Phrase Phrase Phrase Phrase Phrase Phrase one_atom one_part one_and one_arg one_args one_cmp one_expr one_postfix one_prefix one_product one_sum (map-Atom (WithAtom s) (WithPostfixPart s) (WithAnd s) (WithArg s) (WithArgs s) (WithCmp s) (WithExpr s) (WithPostfix s) (WithPrefix s) (WithProduct s) (WithSum s) Atom PostfixPart And Arg Args Cmp Expr Postfix Prefix Product Sum (λ e. e.0) (λ e. e.0) (λ e. e.0) (λ e. e.0) (λ e. e.0) (λ e. e.0) (λ e. e.0) (λ e. e.0) (λ e. e.0) (λ e. e.0) (λ e. e.0) y))) (atom-step s pl y)))
     (λ x y is. subst (λ z. SoundPart s (part_meant (roll-PostfixPart z))) is (subst (SoundPart s) (sym (fold-roll-PostfixPart Opening Part Phrase Argument (List Argument) Phrase Phrase Phrase Phrase Phrase Phrase one_atom one_part one_and one_arg one_args one_cmp one_expr one_postfix one_prefix one_product one_sum (map-PostfixPart (WithAtom s) (WithPostfixPart s) (WithAnd s) (WithArg s) (WithArgs s) (WithCmp s) (WithExpr s) (WithPostfix s) (WithPrefix s) (WithProduct s) (WithSum s) Atom PostfixPart And Arg Args Cmp Expr Postfix Prefix Product Sum (λ e. e.0) (λ e. e.0) (λ e. e.0) (λ e. e.0) (λ e. e.0) (λ e. e.0) (λ e. e.0) (λ e. e.0) (λ e. e.0) (λ e. e.0) (λ e. e.0) y))) (part-step s pl y)))
     (λ x y is. subst (λ z. SoundPhrase s (and_phrase (roll-And z))) is (subst (SoundPhrase s) (sym (fold-roll-And Opening Part Phrase Argument (List Argument) Phrase Phrase Phrase Phrase Phrase Phrase one_atom one_part one_and one_arg one_args one_cmp one_expr one_postfix one_prefix one_product one_sum (map-And (WithAtom s) (WithPostfixPart s) (WithAnd s) (WithArg s) (WithArgs s) (WithCmp s) (WithExpr s) (WithPostfix s) (WithPrefix s) (WithProduct s) (WithSum s) Atom PostfixPart And Arg Args Cmp Expr Postfix Prefix Product Sum (λ e. e.0) (λ e. e.0) (λ e. e.0) (λ e. e.0) (λ e. e.0) (λ e. e.0) (λ e. e.0) (λ e. e.0) (λ e. e.0) (λ e. e.0) (λ e. e.0) y))) (and-step s pl y)))

@@ -1,0 +1,4 @@
+pub mod StatementLemmas
+pub mod Asking
+pub mod DeclarationLemmas
+pub mod FileLemmas
