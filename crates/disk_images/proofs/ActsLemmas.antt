@@ -1,6 +1,7 @@
 -- What a crash and a dropped file make of a disk.
 use Rattle.std.specs.Prelude.{◌/◌, ◌%◌}
 use Rattle.std.proofs.Common.{◌≡◌, ◌∙◌, ◌||◌, ℕ, Bool, true, false, cond, List, [], ◌∷◌, map, Option, Some, None, is_some, refl, sym, ap, subst}
+use Rattle.std.proofs.lemmas.Bool.{or_parts}
 use Rattle.std.specs.List.{list_any}
 use Rattle.std.specs.Cmp.{eq_by_cmp_equiv}
 use Rattle.std.specs.Cmp.Lexicographic.{nat_list_cmp_total}
@@ -17,14 +18,10 @@ there : (folder : Folder) (name : List ℕ) (found : Option (List ℕ)) → get 
 there folder name None = removed_there folder name
 there folder name (Some bytes) = written_there folder name bytes
 
-neither : (a b : Bool) → a || b ≡ false → (a ≡ false) × (b ≡ false)
-neither false b e = (refl, e)
-neither true b e = cc
-
 elsewhere_crashed : (choice : ℕ) (doubts : List (List ℕ × Option (List ℕ))) (folder : Folder) (q : List ℕ) → list_any (is_at q) (map (λ e. e.0) doubts) ≡ false → get (left_by_crash choice doubts folder) q ≡ get folder q
 elsewhere_crashed choice [] folder q e = refl
 elsewhere_crashed choice (d ∷ doubts) folder q e =
-    let parts : (is_at q d.0 ≡ false) × (list_any (is_at q) (map (λ e. e.0) doubts) ≡ false) = neither (is_at q d.0) (list_any (is_at q) (map (λ e. e.0) doubts)) e in
+    let parts : (is_at q d.0 ≡ false) × (list_any (is_at q) (map (λ e. e.0) doubts) ≡ false) = or_parts (is_at q d.0) (list_any (is_at q) (map (λ e. e.0) doubts)) e in
     elsewhere_crashed (choice / 4) doubts (with_file folder d.0 (chosen (choice % 4) (get folder d.0) d.1)) q parts.1
     ∙ elsewhere folder d.0 (chosen (choice % 4) (get folder d.0) d.1) q parts.0
 

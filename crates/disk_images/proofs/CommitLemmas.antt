@@ -1,5 +1,6 @@
 -- Every moment of a commit is safe.
 use Rattle.std.proofs.Common.{◌≡◌, ℕ, Bool, true, false, not, ◌&&◌, cond, List, [], ◌∷◌, ◌++◌, nat_eq, Option, Some, None, is_some, refl, sym, ap, subst, ◌∙◌}
+use Rattle.std.proofs.lemmas.Bool.{and_parts, not-true}
 use Rattle.std.specs.Ordering.{nat_cmp}
 use Rattle.std.specs.Cmp.Lexicographic.{slice_cmp, pointwise, nat_list_cmp_total, texts_ties, same_text}
 use Rattle.std.specs.Cmp.{eq_by_cmp_equiv}
@@ -55,22 +56,13 @@ stands_after name found (ReadFile file) disk e s = s
 pub stands_durably : (P : Folder → Type 0) (name : List ℕ) (found : Option (List ℕ)) (disk : Disk) → ((folder : Folder) → get folder name ≡ found → P folder) → Stands name found disk → Durably P disk
 stands_durably P name found disk so s = record { at = λ image is. so image (is.at name s.sure ∙ s.reads) }
 
-split : (a b : Bool) → a && b ≡ true → (a ≡ true) × (b ≡ true)
-split true true e = (refl, refl)
-split true false e = cc
-split false b e = cc
-
-unchanged : (b : Bool) → not b ≡ true → b ≡ false
-unchanged true e = cc
-unchanged false e = refl
-
 pub stands_through : (P : Folder → Type 0) (name : List ℕ) (found : Option (List ℕ)) → ((folder : Folder) → get folder name ≡ found → P folder)
     → (calls : List Call) (disk : Disk) → leave_alone name calls ≡ true → Stands name found disk → DurablyThrough P calls disk × Stands name found (after_all calls disk)
 stands_through P name found so [] disk e s = (stands_durably P name found disk so s, s)
 stands_through P name found so (call ∷ calls) disk e s =
-    let here : (not (changes name call) ≡ true) × (leave_alone name calls ≡ true) = split (not (changes name call)) (leave_alone name calls) e in
+    let here : (not (changes name call) ≡ true) × (leave_alone name calls ≡ true) = and_parts (not (changes name call)) (leave_alone name calls) e in
     let rest : DurablyThrough P calls (after call disk) × Stands name found (after_all calls (after call disk)) =
-    stands_through P name found so calls (after call disk) here.1 (stands_after name found call disk (unchanged (changes name call) here.0) s) in
+    stands_through P name found so calls (after call disk) here.1 (stands_after name found call disk (not-true (changes name call) here.0) s) in
     ((stands_durably P name found disk so s, rest.0), rest.1)
 
 -- one list of calls and then another
