@@ -7,6 +7,7 @@ use Rattle.swift_ast.specs.declared.TokenKind.{TokenKind}
 use Rattle.swift_ast.specs.declared.TokenKind.TheVariants as kind
 use Rattle.swift_ast.specs.declared.Token.{Token}
 use Rattle.swift_ast.specs.Leaves.{Leaf, leaf_of}
+use Rattle.swift_token.specs.declared.limits.TheConstants.{MAX_FILE_BYTES}
 use Rattle.swift_token.specs.Spelling.{SpellsByBlanks}
 use Rattle.integer_globals.specs.declared.trees.Term.{Term}
 use Rattle.integer_globals.specs.declared.trees.Term.TheVariants.{Integer, Global}
@@ -122,13 +123,13 @@ plain_file (d ∷ ds) ts f = plain_declaration d ts f.0 f.1 (plain_file ds f.0 f
 abbrev pub IsTheTree : Option (List Declaration) → List ℕ → Type 0
 IsTheTree found text = (ds : List Declaration) → (found ≡ Some ds) ↔ IsTreeOf ds text
 
-pub tree_too_long : (text : List ℕ) → (length text ≤ 262144 → ⊥) → IsTheTree None text
+pub tree_too_long : (text : List ℕ) → (length text ≤ MAX_FILE_BYTES → ⊥) → IsTheTree None text
 tree_too_long text long ds = ((λ e. absurd (none_some ds e)), (λ tree. absurd (long tree.0)))
 
 pub tree_no_tokens : (text : List ℕ) → ((ts : List Leaf) → are_plain ts ≡ true → SpellsByBlanks ts text → ⊥) → IsTheTree None text
 tree_no_tokens text none ds = ((λ e. absurd (none_some ds e)), (λ tree. absurd (none tree.1 (plain_file ds tree.1 tree.3) tree.2)))
 
-pub tree_found : (text : List ℕ) (ts : List Leaf) (found : Option (List Declaration)) → length text ≤ 262144 → SpellsByBlanks ts text → ((us : List Leaf) → are_plain us ≡ true → SpellsByBlanks us text → ts ≡ us) → ReadsFile found ts
+pub tree_found : (text : List ℕ) (ts : List Leaf) (found : Option (List Declaration)) → length text ≤ MAX_FILE_BYTES → SpellsByBlanks ts text → ((us : List Leaf) → are_plain us ≡ true → SpellsByBlanks us text → ts ≡ us) → ReadsFile found ts
     → IsTheTree found text
 tree_found text ts found short spells only reads ds = (
   (λ e. (short, ts, spells, (reads ds).0 e)),

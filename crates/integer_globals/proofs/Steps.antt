@@ -4,6 +4,7 @@ use Rattle.std.specs.List.{list_any, prefix_len}
 use Rattle.std.proofs.lemmas.List.{append-nil, take-append-drop, map_push}
 use Rattle.swift_ast.specs.declared.Token.{Token}
 use Rattle.swift_ast.specs.Leaves.{Leaf, leaf_of}
+use Rattle.swift_token.specs.declared.limits.TheConstants.{MAX_FILE_BYTES}
 use Rattle.swift_token.specs.Texts.{is_blank}
 use Rattle.swift_token.specs.Spelling.{begins_by, IsBlanks, is_line_feed, line_behind}
 use Rattle.swift_token.proofs.Fronts.{front_passes, front_stops}
@@ -53,5 +54,5 @@ lexed_step text before rest gap behind f done first place start l cut finds at f
 pub pushed : (tokens more : List Token) (t : Token) → more ≡ tokens ++ (t ∷ []) → map leaf_of tokens ++ (leaf_of t ∷ []) ≡ map leaf_of more
 pushed tokens more t e = sym (ap (map leaf_of) e ∙ map_push leaf_of tokens t)
 
-pub place_fits : (p : Position) (before : List ℕ) (n : ℕ) → IsPositionBehind p before → length before + n ≤ 262144 → (p.line + n < 2 ^ 32) × (p.column + n < 2 ^ 32)
+pub place_fits : (p : Position) (before : List ℕ) (n : ℕ) → IsPositionBehind p before → length before + n ≤ MAX_FILE_BYTES → (p.line + n < 2 ^ 32) × (p.column + n < 2 ^ 32)
 place_fits p before n at short = (omega (arith, at.line, line_bound before), omega (arith, at.column, column_bound before))

@@ -3,6 +3,7 @@ use Rattle.std.specs.Prelude.{ℕ, ◌≡◌, ◌≤◌, true, List, [], ◌∷�
 use Rattle.swift_ast.specs.declared.TokenKind.TheVariants as kind
 use Rattle.swift_ast.specs.Leaves.{Leaf}
 use Rattle.swift_token.specs.Spelling.{SpellsByBlanks}
+use Rattle.swift_token.specs.declared.limits.TheConstants.{MAX_FILE_BYTES}
 use Rattle.integer_globals.specs.declared.trees.Word.{Word}
 use Rattle.integer_globals.specs.declared.trees.Term.{Term}
 use Rattle.integer_globals.specs.declared.trees.Term.TheVariants.{Integer, Global}
@@ -59,7 +60,7 @@ abbrev pub IsFile : List Declaration → List Leaf → Type 0
 IsFile [] ts = ts ≡ []
 IsFile (d ∷ ds) ts = (rest : List Leaf) × IsDeclaration d ts rest × IsFile ds rest
 
--- The text has at most 262,144 bytes, and tokens with blanks between them spell it, which are those of the declarations.
+-- The text has at most MAX_FILE_BYTES bytes, and tokens with blanks between them spell it, which are those of the declarations.
 -- All of its bytes are ASCII, so it is UTF-8.
 abbrev pub IsTreeOf : List Declaration → List ℕ → Type 0
-IsTreeOf ds text = (length text ≤ 262144) × (ts : List Leaf) × SpellsByBlanks ts text × IsFile ds ts
+IsTreeOf ds text = (length text ≤ MAX_FILE_BYTES) × (ts : List Leaf) × SpellsByBlanks ts text × IsFile ds ts

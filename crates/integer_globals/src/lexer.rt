@@ -1,6 +1,7 @@
 ghost use Rattle.std.specs.Prelude.{◌≡◌, ◌≤◌, true, List, length, map, IfOk, MatchOption, IfSome};
 ghost use Rattle.swift_ast.specs.Leaves.{Leaf, leaf_of};
 ghost use Rattle.swift_token.specs.Spelling.{SpellsByBlanks};
+ghost use Rattle.swift_token.specs.declared.limits.TheConstants.{MAX_FILE_BYTES};
 ghost use Rattle.integer_globals.specs.Lexing.{are_plain};
 
 use crate::words::first_token;
@@ -12,7 +13,7 @@ pub fn plain_tokens<'a>(
     alloc: Global,
     bytes: &'a [u8],
 ) -> Result<Option<Vec<Token<'a>>>, AllocError>
-    requires { length bytes.now ≤ 262144 }
+    requires { length bytes.now ≤ MAX_FILE_BYTES }
     ensures sound { IfOk result (λ found. IfSome found (λ tokens. SpellsByBlanks (map leaf_of tokens.items) bytes.now)) }
     ensures complete { IfOk result (λ found. (ts : List Leaf) → are_plain ts ≡ true → SpellsByBlanks ts bytes.now → MatchOption found ⊥ (λ tokens. map leaf_of tokens.items ≡ ts)) }
 {

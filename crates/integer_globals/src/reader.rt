@@ -11,10 +11,7 @@ use dep_key::{Name, NoMemory};
 use sqlite_items::Items;
 use std::alloc::{AllocError, Global};
 use std::marker::Model;
-use swift_token::{Token, TokenKind};
-
-/// The most bytes that a source file may have.
-const MAX_FILE_BYTES: usize = 262144;
+use swift_token::{MAX_FILE_BYTES, Token, TokenKind};
 
 /// The tokens that are still to be read.
 #[derive(Drop)]
@@ -176,7 +173,7 @@ fn declarations(
 
 /// The declarations of a source file of the first language.
 ///
-/// A file has a tree if it has at most 262,144 bytes and is a list of declarations `let NAME = TERM + TERM ..`, each of
+/// A file has a tree if it has at most `MAX_FILE_BYTES` bytes and is a list of declarations `let NAME = TERM + TERM ..`, each of
 /// which begins a line. Tokens are the longest possible, and stand apart by blanks alone: a comment has no place here.
 pub fn read_declarations(
     alloc: Global,

@@ -8,22 +8,24 @@ use Rattle.swift_ast.specs.Leaves.{Leaf, leaf_of}
 use Rattle.swift_ast.specs.Tests.{on, opens_level, closes_level}
 use Rattle.swift_ast.specs.Declarations.{decls_form}
 use Rattle.swift_token.specs.declared.faults.LexFault.{LexFault}
+use Rattle.swift_token.specs.declared.limits.TheConstants.{MAX_FILE_BYTES}
 use Rattle.swift_token.specs.Spelling.{line_behind, column_behind}
 use Rattle.swift_token.specs.Faults.{Spells, HasFault}
 use Rattle.grammar.specs.Faults.{Parsed}
 use Rattle.grammar.specs.Whole.{IsFirstFault}
+use Rattle.swift_parser.specs.declared.file.TheConstants.{MAX_LEVELS}
 use Rattle.swift_parser.specs.declared.file.Ended.{Ended}
 use Rattle.swift_parser.specs.declared.file.Ended.TheVariants as ended
 use Rattle.swift_parser.specs.declared.faults.ParseFault.{ParseFault}
 use Rattle.swift_parser.specs.declared.faults.ParseFault.TheVariants as fault
 
--- A file has at most 262,144 bytes and is UTF-8.
+-- A file has at most MAX_FILE_BYTES bytes and is UTF-8.
 abbrev pub IsReadable : List ℕ → Type 0
-IsReadable bytes = (length bytes ≤ 262144) × IsUtf8 bytes
+IsReadable bytes = (length bytes ≤ MAX_FILE_BYTES) × IsUtf8 bytes
 
--- The tokens are those of a well-formed tree, and at most 100 levels of brackets are open.
+-- The tokens are those of a well-formed tree, and at most MAX_LEVELS levels of brackets are open.
 abbrev pub AreOf : List Leaf → List Decl → Type 0
-AreOf ts decls = IsTree (on opens_level) (on closes_level) 100 decls_form ts decls
+AreOf ts decls = IsTree (on opens_level) (on closes_level) MAX_LEVELS decls_form ts decls
 
 -- The tree of a file at a path: the tokens of its declarations spell the file.
 abbrev pub IsTreeOf : List ℕ → List ℕ → FileTree → Type 0
@@ -35,19 +37,19 @@ IsAt bytes [] line column text = (line ≡ line_behind bytes) × (column ≡ col
 IsAt bytes (t ∷ ts) line column text = (line ≡ t.line) × (column ≡ t.column) × (text ≡ t.text)
 
 -- The tokens before the rest begin some file of the grammar, and with the next one none; where nothing is left they are no
--- file. No bracket before the rest opens a level above 100.
+-- file. No bracket before the rest opens a level above MAX_LEVELS.
 abbrev pub IsUnexpectedAt : List Leaf → List Leaf → Type 0
-IsUnexpectedAt ts rest = IsUnexpected (on opens_level) (on closes_level) 100 decls_form ts rest
+IsUnexpectedAt ts rest = IsUnexpected (on opens_level) (on closes_level) MAX_LEVELS decls_form ts rest
 
--- The rest begins with the first bracket that opens level 101, and with it the tokens begin some file of the grammar.
+-- The rest begins with the first bracket that opens a level above MAX_LEVELS, and with it the tokens begin some file of the grammar.
 abbrev pub IsTooDeepAt : List Leaf → List Leaf → Type 0
-IsTooDeepAt ts rest = IsTooDeep (on opens_level) (on closes_level) 100 decls_form ts rest
+IsTooDeepAt ts rest = IsTooDeep (on opens_level) (on closes_level) MAX_LEVELS decls_form ts rest
 
 -- The first fault of a file: its length, then its encoding, then its first lexical fault, then the first token that is not
 -- expected or the first bracket that is too deep, whichever comes first.
 abbrev pub IsFaultOf : List ℕ → ParseFault → Type 0
-IsFaultOf bytes fault.TooLarge = 262144 < length bytes
-IsFaultOf bytes fault.NotUtf8 = (length bytes ≤ 262144) × ¬ IsUtf8 bytes
+IsFaultOf bytes fault.TooLarge = MAX_FILE_BYTES < length bytes
+IsFaultOf bytes fault.NotUtf8 = (length bytes ≤ MAX_FILE_BYTES) × ¬ IsUtf8 bytes
 IsFaultOf bytes (fault.Lex f) = IsReadable bytes × HasFault f bytes
 IsFaultOf bytes (fault.Unexpected line column text) =
     IsReadable bytes × ((ts : List Leaf) × (rest : List Leaf) × Spells ts bytes × IsUnexpectedAt ts rest × IsAt bytes rest line column text)
@@ -71,8 +73,8 @@ ParsesFile path bytes (Err fault.NoMemory) = Unit {0}
 
 -- the place of the first bracket that opens a level above the limit
 abbrev pub DeepAt : Option ℕ → List Leaf → Type 0
-DeepAt (Some at) ts = (too_deep (on opens_level) (on closes_level) 100 0 ts ≡ Some (drop at ts)) × (at < length ts)
-DeepAt None ts = too_deep (on opens_level) (on closes_level) 100 0 ts ≡ None
+DeepAt (Some at) ts = (too_deep (on opens_level) (on closes_level) MAX_LEVELS 0 ts ≡ Some (drop at ts)) × (at < length ts)
+DeepAt None ts = too_deep (on opens_level) (on closes_level) MAX_LEVELS 0 ts ≡ None
 
 -- What reading the declarations of a file gives, by its tokens and the place behind its last byte: a tree, or the first fault.
 abbrev pub DeclsGive : List ℕ → List Leaf → Result (List Decl) ParseFault → Type 0

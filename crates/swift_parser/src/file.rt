@@ -2,6 +2,7 @@ ghost use Rattle.std.specs.Prelude.{◌≡◌, ◌≤◌, length, map, Some, Non
 ghost use Rattle.swift_ast.specs.Leaves.{leaf_of};
 ghost use Rattle.swift_ast.specs.Tests.{one_of, level_openings, level_closings};
 ghost use Rattle.swift_token.specs.Positions.{IsPositionBehind};
+ghost use Rattle.swift_token.specs.declared.limits.TheConstants.{MAX_FILE_BYTES};
 ghost use Rattle.swift_parser.specs.Whole.{DeepAt, IsReadable, IsUnexpectedHere, IsTooDeepHere, AreAll, DeclsGive, TellsTokens, ParsesFile};
 
 use crate::ParseFault;
@@ -9,14 +10,11 @@ use crate::declarations::decls;
 use sqlite_items::Items;
 use std::alloc::Global;
 use swift_ast::{Decl, FileTree, Terminal, Text, Token};
-use swift_token::{LexEnd, Position, tokens};
+use swift_token::{LexEnd, MAX_FILE_BYTES, Position, tokens};
 use token_cursor::{Stop, TokenCursor, terminal};
 
-/// The most bytes that a source file may have.
-const MAX_FILE_BYTES: usize = 262_144;
-
 /// The most levels of brackets.
-const MAX_LEVELS: usize = 100;
+pub const MAX_LEVELS: usize = 100;
 
 fn opens_level(terminal: Terminal) -> bool
     ensures { result ≡ one_of level_openings terminal }
@@ -51,7 +49,7 @@ fn too_deep_at(tokens: &[Token<'_>]) -> Option<usize>
 
 /// The place behind the last byte of a file.
 fn end_of(bytes: &[u8]) -> Position
-    requires { length bytes.now ≤ 262144 }
+    requires { length bytes.now ≤ MAX_FILE_BYTES }
     ensures { IsPositionBehind result bytes.now }
 {
     let start = Position { line: 1, column: 1 };
@@ -60,7 +58,7 @@ fn end_of(bytes: &[u8]) -> Position
 
 /// The fault where a file's tokens can't continue with the rest of them.
 fn unexpected(alloc: Global, bytes: &[u8], rest: &[Token<'_>]) -> ParseFault
-    requires { length bytes.now ≤ 262144 }
+    requires { length bytes.now ≤ MAX_FILE_BYTES }
     ensures { IsUnexpectedHere bytes.now (map leaf_of rest.now) result }
 {
     match rest {
@@ -85,7 +83,7 @@ fn unexpected(alloc: Global, bytes: &[u8], rest: &[Token<'_>]) -> ParseFault
 
 /// The fault where the rest begins with a bracket that is too deep.
 fn too_deep(bytes: &[u8], rest: &[Token<'_>]) -> ParseFault
-    requires { length bytes.now ≤ 262144 }
+    requires { length bytes.now ≤ MAX_FILE_BYTES }
     ensures { IsTooDeepHere bytes.now (map leaf_of rest.now) result }
 {
     match rest {
@@ -137,7 +135,7 @@ fn shallow_decls(
     bytes: &[u8],
     tokens: &[Token<'_>],
 ) -> Result<Items<Decl>, ParseFault>
-    requires bytes { length bytes.now ≤ 262144 }
+    requires bytes { length bytes.now ≤ MAX_FILE_BYTES }
     requires shallow { DeepAt None (map leaf_of tokens.now) }
     ensures { DeclsGive bytes.now (map leaf_of tokens.now) result }
 {
@@ -156,7 +154,7 @@ fn cut_decls(
     tokens: &[Token<'_>],
     at: usize,
 ) -> Result<Items<Decl>, ParseFault>
-    requires bytes { length bytes.now ≤ 262144 }
+    requires bytes { length bytes.now ≤ MAX_FILE_BYTES }
     requires deep { DeepAt (Some at) (map leaf_of tokens.now) }
     ensures { DeclsGive bytes.now (map leaf_of tokens.now) result }
 {
@@ -177,7 +175,7 @@ fn cut_decls(
 
 /// The declarations of a file with these tokens.
 fn file_decls(alloc: Global, bytes: &[u8], tokens: &[Token<'_>]) -> Result<Items<Decl>, ParseFault>
-    requires { length bytes.now ≤ 262144 }
+    requires { length bytes.now ≤ MAX_FILE_BYTES }
     ensures { DeclsGive bytes.now (map leaf_of tokens.now) result }
 {
     match too_deep_at(tokens) {
@@ -206,8 +204,8 @@ fn file_tree(
 
 /// The tree of a source file, or its first fault.
 ///
-/// The path is the one that the tree gets. A file has at most 262,144 bytes, is UTF-8, and has
-/// tokens that are a file of the grammar in which at most 100 levels of brackets are open. The first
+/// The path is the one that the tree gets. A file has at most `MAX_FILE_BYTES` bytes, is UTF-8, and has
+/// tokens that are a file of the grammar in which at most `MAX_LEVELS` levels of brackets are open. The first
 /// fault is what stands first in this order: `TooLarge`, `NotUtf8`, the first lexical fault, and the
 /// first token that is `Unexpected` or the first bracket that is `TooDeep`, whichever comes first,
 /// `Unexpected` at the same token.

@@ -11,6 +11,6 @@ mod file;
 mod statements;
 
 pub use faults::ParseFault;
-pub use file::parse_file;
+pub use file::{MAX_LEVELS, parse_file};
 pub use swift_ast::{FileTree, NoMemory, Text};
-pub use swift_token::{LexFault, LexWhat};
+pub use swift_token::{LexFault, LexWhat, MAX_FILE_BYTES};

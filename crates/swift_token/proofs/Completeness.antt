@@ -165,14 +165,14 @@ faulty_escape good d f r part bad closed =
 pub fault_stands : (what : LexWhat) (front after : List ℕ) → FaultAt what front after → Faulty what front after
 fault_stands BadCharacter front after h =
     subst (λ (x : List ℕ). Faulty BadCharacter x after) (sym h.0)
-    (subst (λ (x : List ℕ). Faulty BadCharacter [] x) (sym h.3) (faulty_character h.1 h.2 h.4 (λ b. h.5 (subst (λ (x : List ℕ). BeginsWith (is_among marks) x) (sym h.3) b))))
-fault_stands BadNumber front after h = subst (λ (x : List ℕ). Faulty BadNumber x after) (sym h.0) (subst (λ (x : List ℕ). Faulty BadNumber [] x) (sym h.4) (faulty_number h.1 h.2 h.3 h.5 h.6))
-fault_stands WideNumber front after h = subst (λ (x : List ℕ). Faulty WideNumber x after) (sym h.0) (subst (λ (x : List ℕ). Faulty WideNumber [] x) (sym h.3) (faulty_wide h.1 h.2 h.4 h.5 h.6))
-fault_stands OpenString front after h = subst (λ (x : List ℕ). Faulty OpenString x after) (sym h.0) (subst (λ (x : List ℕ). Faulty OpenString [] x) (sym h.2) (faulty_open h.1 h.3))
+    (subst (λ (x : List ℕ). Faulty BadCharacter [] x) (sym h.1.2) (faulty_character h.1.0 h.1.1 h.1.3 (λ b. h.1.4 (subst (λ (x : List ℕ). BeginsWith (is_among marks) x) (sym h.1.2) b))))
+fault_stands BadNumber front after h = subst (λ (x : List ℕ). Faulty BadNumber x after) (sym h.0) (subst (λ (x : List ℕ). Faulty BadNumber [] x) (sym h.1.3) (faulty_number h.1.0 h.1.1 h.1.2 h.1.4 h.1.5))
+fault_stands WideNumber front after h = subst (λ (x : List ℕ). Faulty WideNumber x after) (sym h.0) (subst (λ (x : List ℕ). Faulty WideNumber [] x) (sym h.1.2) (faulty_wide h.1.0 h.1.1 h.1.3 h.1.4 h.1.5))
+fault_stands OpenString front after h = subst (λ (x : List ℕ). Faulty OpenString x after) (sym h.0) (subst (λ (x : List ℕ). Faulty OpenString [] x) (sym h.1.1) (faulty_open h.1.0 h.1.2))
 fault_stands BadEscape front after h =
     let closed = h.7 in
     let cs_is : h.2 ≡ closed.0 ++ closed.1 = closed.2 in
     subst (λ (x : List ℕ). Faulty BadEscape x after) (sym h.3)
     (subst (λ (x : List ℕ). Faulty BadEscape (34 ∷ h.0) x) (ap (λ (x : List ℕ). 92 ∷ h.1 ∷ x) (sym cs_is) ∙ sym h.4) (faulty_escape h.0 h.1 closed.0 closed.1 h.5 h.6 closed.3))
 fault_stands OpenComment front after h =
-    subst (λ (x : List ℕ). Faulty OpenComment x after) (sym h.0) (subst (λ (x : List ℕ). Faulty OpenComment [] x) (sym h.2) (record { found = refl; no_piece = open_no_piece h.1 h.3 }))
+    subst (λ (x : List ℕ). Faulty OpenComment x after) (sym h.0) (subst (λ (x : List ℕ). Faulty OpenComment [] x) (sym h.1.1) (record { found = refl; no_piece = open_no_piece h.1.0 h.1.2 }))

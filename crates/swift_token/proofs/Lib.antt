@@ -1,4 +1,5 @@
 pub mod Fronts
+pub mod IdentifiersLemmas
 pub mod Words
 pub mod Longest
 pub mod Places

@@ -43,7 +43,7 @@ number_front c cs (f ∷ fs) back e d all stops =
 
 number_letter : (bs front back : List ℕ) → bs ≡ front ++ back → is_number front ≡ true → begins_by is_letter back ≡ true → FaultAt BadNumber [] bs
 number_letter bs front [] e n l = absurd (false≢true l)
-number_letter bs front (c ∷ cs) e n l = (refl, front, c, cs, e, n, l)
+number_letter bs front (c ∷ cs) e n l = (refl, (front, c, cs, e, n, l))
 
 number_apart : (back : List ℕ) → begins_by is_number_byte back ≡ false → begins_by is_letter back ≡ false → begins_by is_word_byte back ≡ false
 number_apart [] n l = refl
@@ -84,7 +84,7 @@ number_sound c cs d =
     (prefix_len-le-length is_number_byte (c ∷ cs), number_token c cs front back whole d number apart v))
     (λ (v : leb (number_value (take (number_len (c ∷ cs)) (c ∷ cs))) 9223372036854775807 ≡ false).
     subst (λ (s : NextLexeme). IsStanding s (c ∷ cs)) (sym (cond-false (leb (number_value (take (number_len (c ∷ cs)) (c ∷ cs))) 9223372036854775807) (Token Integer n) (Fault WideNumber 0) v))
-    (omega arith, (refl, front, back, whole, number, apart, leb-false (number_value (take (number_len (c ∷ cs)) (c ∷ cs))) 9223372036854775807 v)))
+    (omega arith, (refl, (front, back, whole, number, apart, leb-false (number_value (take (number_len (c ∷ cs)) (c ∷ cs))) 9223372036854775807 v))))
     (cases_Bool (leb (number_value (take (number_len (c ∷ cs)) (c ∷ cs))) 9223372036854775807))))
     (cases_Bool (begins_by is_letter (drop (number_len (c ∷ cs)) (c ∷ cs))))
 
@@ -161,7 +161,7 @@ closed_sound cs n (Some k) through some =
 
 ended_sound : (cs : List ℕ) (found : Option ℕ) → string_end false cs ≡ found → IsStanding (ended_lexeme cs found) (34 ∷ cs)
 ended_sound cs None h =
-    (omega arith, (refl, cs, refl, λ b. let e : None ≡ Some (length b.0) = sym h ∙ ap (string_end false) b.2 ∙ string_ends false b.0 b.1 b.3 in absurd (cc)))
+    (omega arith, (refl, (cs, refl, λ b. let e : None ≡ Some (length b.0) = sym h ∙ ap (string_end false) b.2 ∙ string_ends false b.0 b.1 b.3 in absurd (cc))))
 ended_sound cs (Some n) h = closed_sound cs n (bad_escape false (take n cs)) (string_through false cs n h) refl
 
 -- comments that don't end
@@ -182,7 +182,7 @@ line_sound cs none =
     (line_or_piece cs)
 
 open_sound : (cs : List ℕ) → NoTriviaPiece (47 ∷ 42 ∷ cs) → FaultAt OpenComment [] (47 ∷ 42 ∷ cs)
-open_sound cs none = (refl, cs, refl, λ b. none (47 ∷ 42 ∷ b.0, b.1, ap (λ (x : List ℕ). 47 ∷ 42 ∷ x) b.2, b.3))
+open_sound cs none = (refl, (cs, refl, λ b. none (47 ∷ 42 ∷ b.0, b.1, ap (λ (x : List ℕ). 47 ∷ 42 ∷ x) b.2, b.3)))
 
 comment_sound : (c : ℕ) (cs : List ℕ) → NoTriviaPiece (c ∷ cs) → begins_comment (c ∷ cs) ≡ true → IsStanding (comment_lexeme cs) (c ∷ cs)
 comment_sound c [] none h = absurd (false≢true h)
@@ -265,11 +265,13 @@ mark_sound c cs none w q n =
       omega arith,
       (
         refl,
-        c,
-        cs,
-        refl,
-        or_from (is_blank c || is_word_byte c) (eqb c 34) (or_from (is_blank c) (is_word_byte c) (false_from_ne_true (is_blank c) (λ b. none (c ∷ [], cs, refl, b))) w) q,
-        no_mark (c ∷ cs) l s,
+        (
+          c,
+          cs,
+          refl,
+          or_from (is_blank c || is_word_byte c) (eqb c 34) (or_from (is_blank c) (is_word_byte c) (false_from_ne_true (is_blank c) (λ b. none (c ∷ [], cs, refl, b))) w) q,
+          no_mark (c ∷ cs) l s,
+        ),
       ),
     ))
     (cases_Bool (is_among short_marks (c ∷ [])))))

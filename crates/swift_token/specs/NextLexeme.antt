@@ -5,12 +5,14 @@ use Rattle.swift_ast.specs.declared.TokenKind.TheVariants as kind
 use Rattle.swift_token.specs.declared.faults.LexWhat.TheVariants as what
 use Rattle.swift_token.specs.declared.next_lexeme.NextLexeme.{NextLexeme}
 use Rattle.swift_token.specs.declared.next_lexeme.NextLexeme.TheVariants.{End, Token, Fault}
+use Rattle.swift_token.specs.declared.characters.TheConstants.{QUOTE, STAR, UNDERSCORE}
+use Rattle.swift_token.specs.declared.limits.TheConstants.{MAX_INTEGER}
 use Rattle.swift_token.specs.Texts.{is_digit, is_letter, begins_word, is_word_byte, is_keyword, number_value, is_among, long_marks, short_marks}
 use Rattle.swift_token.specs.Spelling.{begins_by, begins_comment}
 use Rattle.swift_token.specs.Scans.{string_end, bad_escape}
 
 abbrev pub is_number_byte : ℕ → Bool
-is_number_byte c = is_digit c || c == 95
+is_number_byte c = is_digit c || c == UNDERSCORE
 
 abbrev pub number_len : List ℕ → ℕ
 number_len bs = prefix_len is_number_byte bs
@@ -18,7 +20,7 @@ number_len bs = prefix_len is_number_byte bs
 abbrev pub number_lexeme : List ℕ → NextLexeme
 number_lexeme bs =
     if begins_by is_letter (drop (number_len bs) bs) then Fault what.BadNumber 0
-    else (if nat_le (number_value (take (number_len bs) bs)) 9223372036854775807 then Token kind.Integer (number_len bs) else Fault what.WideNumber 0)
+    else (if nat_le (number_value (take (number_len bs) bs)) MAX_INTEGER then Token kind.Integer (number_len bs) else Fault what.WideNumber 0)
 
 abbrev pub word_lexeme : List ℕ → NextLexeme
 word_lexeme bs = Token (if is_keyword (take (prefix_len is_word_byte bs) bs) then kind.Keyword else kind.Identifier) (prefix_len is_word_byte bs)
@@ -43,11 +45,11 @@ mark_lexeme bs =
 -- by what stands behind the first byte of a comment that doesn't end
 abbrev pub comment_lexeme : List ℕ → NextLexeme
 comment_lexeme [] = End
-comment_lexeme (d ∷ cs) = if d == 42 then Fault what.OpenComment 0 else End
+comment_lexeme (d ∷ cs) = if d == STAR then Fault what.OpenComment 0 else End
 
 abbrev pub next_lexeme : List ℕ → NextLexeme
 next_lexeme [] = End
 next_lexeme (c ∷ cs) =
     if is_digit c then number_lexeme (c ∷ cs)
     else (if begins_word c then word_lexeme (c ∷ cs)
-    else (if c == 34 then string_lexeme cs else (if begins_comment (c ∷ cs) then comment_lexeme cs else mark_lexeme (c ∷ cs))))
+    else (if c == QUOTE then string_lexeme cs else (if begins_comment (c ∷ cs) then comment_lexeme cs else mark_lexeme (c ∷ cs))))

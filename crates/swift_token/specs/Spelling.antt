@@ -4,10 +4,11 @@ use Rattle.std.specs.List.{list_any, list_all, count_by, suffix_len}
 use Rattle.swift_ast.specs.declared.TokenKind.{TokenKind}
 use Rattle.swift_ast.specs.declared.TokenKind.TheVariants.{Integer}
 use Rattle.swift_ast.specs.Leaves.{Leaf}
+use Rattle.swift_token.specs.declared.characters.TheConstants.{LINE_FEED, SLASH, STAR}
 use Rattle.swift_token.specs.Texts.{is_blank, is_word_byte, is_token_text}
 
 abbrev pub is_line_feed : ℕ → Bool
-is_line_feed c = c == 10
+is_line_feed c = c == LINE_FEED
 
 -- the line and the column of the place behind a text: lines end at line feeds, and columns count bytes
 abbrev pub line_behind : List ℕ → ℕ
@@ -29,7 +30,7 @@ begins_by test (c ∷ cs) = test c
 abbrev pub begins_comment : List ℕ → Bool
 begins_comment [] = false
 begins_comment (c ∷ []) = false
-begins_comment (c ∷ d ∷ cs) = c == 47 && (d == 47 || d == 42)
+begins_comment (c ∷ d ∷ cs) = c == SLASH && (d == SLASH || d == STAR)
 
 -- The text is a token of the kind in front of what stands behind it. No letter, digit or `_` stands directly
 -- behind an integer, and no token begins where a comment does.

@@ -1,5 +1,8 @@
 ghost use Rattle.std.specs.Prelude.{◌≡◌, ℕ, ◌+◌, ◌<◌, ◌≤◌, ◌^◌, List, ◌∷◌, ◌==◌, ◌&&◌, IfSome, length};
 ghost use Rattle.swift_token.specs.Scans.{comment_end, later};
+ghost use Rattle.swift_token.specs.declared.characters.TheConstants.{SLASH, STAR};
+
+use crate::characters::{SLASH, STAR};
 
 /// Inside a comment: how many comments are open, and the byte before if it isn't one of a `/*` or `*/`, else 0.
 #[derive(Clone, Copy, Debug)]
@@ -10,16 +13,16 @@ struct Inside {
 
 /// Whether the byte and the one before it are `*/`.
 fn is_closing(last: u8, byte: u8) -> bool
-    ensures { result ≡ (last == 42 && byte == 47) }
+    ensures { result ≡ (last == STAR && byte == SLASH) }
 {
-    last == b'*' && byte == b'/'
+    last == STAR && byte == SLASH
 }
 
 /// Whether the byte and the one before it are `/*`.
 fn is_opening(last: u8, byte: u8) -> bool
-    ensures { result ≡ (last == 47 && byte == 42) }
+    ensures { result ≡ (last == SLASH && byte == STAR) }
 {
-    last == b'/' && byte == b'*'
+    last == SLASH && byte == STAR
 }
 
 impl Inside {

@@ -2,68 +2,51 @@ ghost use Rattle.std.specs.Prelude.{◌≡◌};
 ghost use Rattle.std.specs.List.{list_all};
 ghost use Rattle.swift_token.specs.Texts.{is_identifier as is_identifier_text, is_keyword as is_keyword_text, is_word as is_word_text, begins_word, is_word_byte};
 
-/// The words that no identifier is: those with a place in the grammar, and those that are only reserved.
-static KEYWORDS: [&[u8]; 53] = [
-    b"let",
-    b"var",
-    b"func",
-    b"struct",
+use crate::characters::UNDERSCORE;
+
+/// The words that no identifier is: those with a place in the grammar, and those that are only reserved. By length.
+static KEYWORDS_TO_2: [&[u8]; 6] = [b"_", b"if", b"in", b"do", b"is", b"as"];
+
+static KEYWORDS_OF_3: [&[u8]; 6] = [b"let", b"var", b"for", b"try", b"nil", b"Any"];
+
+static KEYWORDS_OF_4: [&[u8]; 8] = [
+    b"func", b"else", b"true", b"self", b"enum", b"init", b"case", b"Self",
+];
+
+static KEYWORDS_OF_5: [&[u8]; 11] = [
+    b"while", b"false", b"class", b"catch", b"throw", b"guard", b"defer", b"break", b"where",
+    b"inout", b"super",
+];
+
+static KEYWORDS_OF_6: [&[u8]; 9] = [
+    b"struct", b"return", b"public", b"import", b"deinit", b"switch", b"throws", b"repeat",
+    b"static",
+];
+
+static KEYWORDS_TO_8: [&[u8]; 7] = [
+    b"private",
+    b"default",
+    b"internal",
+    b"protocol",
+    b"rethrows",
+    b"continue",
+    b"operator",
+];
+
+static KEYWORDS_FROM_9: [&[u8]; 6] = [
     b"extension",
     b"typealias",
-    b"return",
-    b"if",
-    b"else",
-    b"while",
-    b"true",
-    b"false",
-    b"self",
-    b"private",
     b"fileprivate",
-    b"internal",
-    b"public",
-    b"_",
-    b"import",
-    b"protocol",
-    b"class",
-    b"enum",
-    b"init",
-    b"deinit",
-    b"switch",
-    b"case",
-    b"default",
-    b"for",
-    b"in",
-    b"do",
-    b"try",
-    b"catch",
-    b"throw",
-    b"throws",
-    b"rethrows",
-    b"guard",
-    b"defer",
-    b"break",
-    b"continue",
     b"fallthrough",
-    b"repeat",
-    b"where",
-    b"static",
     b"subscript",
-    b"operator",
-    b"inout",
-    b"super",
-    b"nil",
-    b"is",
-    b"as",
     b"associatedtype",
-    b"Self",
-    b"Any",
 ];
 
 /// Whether a name can begin with the byte: a letter or `_`.
 pub fn begins_word(byte: u8) -> bool
     ensures { result ≡ begins_word byte }
 {
-    byte.is_ascii_alphabetic() || byte == b'_'
+    byte.is_ascii_alphabetic() || byte == UNDERSCORE
 }
 
 /// Whether a name can go on with the byte: a letter, a digit or `_`.
@@ -77,7 +60,15 @@ pub fn is_word_byte(byte: u8) -> bool
 pub fn is_keyword_text(bytes: &[u8]) -> bool
     ensures { result ≡ is_keyword_text bytes.now }
 {
-    KEYWORDS.contains(&bytes)
+    match bytes.len() {
+        0..=2 => KEYWORDS_TO_2.contains(&bytes),
+        3 => KEYWORDS_OF_3.contains(&bytes),
+        4 => KEYWORDS_OF_4.contains(&bytes),
+        5 => KEYWORDS_OF_5.contains(&bytes),
+        6 => KEYWORDS_OF_6.contains(&bytes),
+        7 | 8 => KEYWORDS_TO_8.contains(&bytes),
+        _ => KEYWORDS_FROM_9.contains(&bytes),
+    }
 }
 
 /// Whether the text is a keyword.

@@ -2,18 +2,19 @@ ghost use Rattle.std.specs.Prelude.{◌≡◌, ◌==◌, ◌||◌, nat_le};
 ghost use Rattle.std.specs.List.{list_all, prefix_len};
 ghost use Rattle.swift_token.specs.Texts.{is_blank, is_digit, is_number as is_number_text, is_token_text, number_value};
 ghost use Rattle.swift_token.specs.Texts.{is_word_byte};
+ghost use Rattle.swift_token.specs.declared.characters.TheConstants.{UNDERSCORE};
+ghost use Rattle.swift_token.specs.declared.limits.TheConstants.{MAX_INTEGER};
 
+use crate::characters::{CARRIAGE_RETURN, DIGIT_0, LINE_FEED, SPACE, TAB, UNDERSCORE};
 use crate::identifiers::is_word_byte;
+use crate::limits::MAX_INTEGER;
 use swift_ast::TokenKind;
-
-/// The greatest integer that a literal may stand for, 2 ^ 63 - 1.
-const MAX_INTEGER: u64 = 9223372036854775807;
 
 /// Whether the byte is a space, a tab, a carriage return or a line feed.
 pub fn is_blank(byte: u8) -> bool
     ensures { result ≡ is_blank byte }
 {
-    byte == b' ' || byte == b'\t' || byte == b'\r' || byte == b'\n'
+    byte == SPACE || byte == TAB || byte == CARRIAGE_RETURN || byte == LINE_FEED
 }
 
 /// How many blanks stand at the front.
@@ -41,11 +42,11 @@ pub fn word_len(bytes: &[u8]) -> usize
 }
 
 fn are_digits(bytes: &[u8]) -> bool
-    ensures { result ≡ list_all (λ d. is_digit d || d == 95) bytes.now }
+    ensures { result ≡ list_all (λ d. is_digit d || d == UNDERSCORE) bytes.now }
 {
     bytes
         .iter()
-        .all(|byte| byte.is_ascii_digit() || *byte == b'_')
+        .all(|byte| byte.is_ascii_digit() || *byte == UNDERSCORE)
 }
 
 /// Whether the bytes are a digit, then digits and `_`.
@@ -60,15 +61,15 @@ pub fn is_number(bytes: &[u8]) -> bool
 
 /// Whether the value of the digits in base 10, each `_` passed over, is at most 2 ^ 63 - 1.
 pub fn is_narrow(bytes: &[u8]) -> bool
-    ensures { result ≡ nat_le (number_value bytes.now) 9223372036854775807 }
+    ensures { result ≡ nat_le (number_value bytes.now) MAX_INTEGER }
 {
     let mut value: u64 = 0;
     for byte in bytes {
-        if *byte != b'_' {
+        if *byte != UNDERSCORE {
             if value > MAX_INTEGER / 10 {
                 return false;
             }
-            value = 10 * value + u64::from(byte.saturating_sub(b'0'));
+            value = 10 * value + u64::from(byte.saturating_sub(DIGIT_0));
             if value > MAX_INTEGER {
                 return false;
             }

@@ -3,6 +3,7 @@ ghost use Rattle.swift_token.specs.Spelling.{begins_by, begins_comment};
 ghost use Rattle.swift_token.specs.Texts.{is_letter};
 ghost use Rattle.swift_token.specs.NextLexeme.{number_len, number_lexeme, word_lexeme, string_lexeme, mark_lexeme, comment_lexeme, next_lexeme};
 
+use crate::characters::{QUOTE, SLASH, STAR, UNDERSCORE};
 use crate::faults::LexWhat;
 use crate::identifiers::{begins_word, is_keyword_text};
 use crate::lexemes::{is_narrow, word_len};
@@ -28,7 +29,7 @@ fn number_len(bytes: &[u8]) -> usize
     ensures { result ≡ number_len bytes.now }
 {
     for (i, byte) in bytes.iter().enumerate() {
-        if !(byte.is_ascii_digit() || *byte == b'_') {
+        if !(byte.is_ascii_digit() || *byte == UNDERSCORE) {
             return i;
         }
     }
@@ -101,7 +102,7 @@ fn begins_comment(bytes: &[u8]) -> bool
     ensures { result ≡ begins_comment bytes.now }
 {
     match bytes {
-        [first, second, ..] => *first == b'/' && (*second == b'/' || *second == b'*'),
+        [first, second, ..] => *first == SLASH && (*second == SLASH || *second == STAR),
         _ => false,
     }
 }
@@ -112,7 +113,7 @@ fn comment_lexeme(behind: &[u8]) -> NextLexeme
 {
     match behind {
         [second, ..] => {
-            if *second == b'*' {
+            if *second == STAR {
                 NextLexeme::Fault(LexWhat::OpenComment, 0)
             } else {
                 NextLexeme::End
@@ -133,7 +134,7 @@ pub fn next_lexeme(bytes: &[u8]) -> NextLexeme
         number_lexeme(bytes)
     } else if begins_word(*first) {
         word_lexeme(bytes)
-    } else if *first == b'"' {
+    } else if *first == QUOTE {
         string_lexeme(behind)
     } else if begins_comment(bytes) {
         comment_lexeme(behind)

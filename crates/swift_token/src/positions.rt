@@ -1,6 +1,8 @@
 ghost use Rattle.std.specs.Prelude.{ℕ, List, ◌+◌, ◌<◌, ◌^◌, ◌++◌, ◌≤◌, length};
 ghost use Rattle.swift_token.specs.Positions.{IsPositionBehind};
 
+use crate::characters::LINE_FEED;
+
 /// A place in a text.
 #[derive(Clone, Copy, Debug)]
 pub struct Position {
@@ -21,7 +23,7 @@ impl Position {
         let mut line = self.line;
         let mut column = self.column;
         for byte in bytes {
-            if *byte == b'\n' {
+            if *byte == LINE_FEED {
                 line += 1;
                 column = 1;
             } else {

@@ -3,6 +3,7 @@ ghost use Rattle.std.specs.Str.{IsUtf8, IsCharBoundary};
 ghost use Rattle.swift_token.specs.Trivia.{IsTrivia, NoTriviaPiece};
 ghost use Rattle.swift_token.specs.Scans.{line_end, slash_end, trivia_piece_end};
 
+use crate::characters::{LINE_FEED, SLASH, STAR};
 use crate::comments::comment_end;
 use crate::lexemes::is_blank;
 
@@ -12,7 +13,7 @@ fn line_end(bytes: &[u8]) -> Option<usize>
     ensures within { IfSome result (λ n. n ≤ length bytes.now) }
 {
     for (i, byte) in bytes.iter().enumerate() {
-        if *byte == b'\n' {
+        if *byte == LINE_FEED {
             return Some(i + 1);
         }
     }
@@ -27,13 +28,13 @@ fn slash_end(behind: &[u8]) -> Option<usize>
     let [second, inside @ ..] = behind else {
         return None;
     };
-    if *second == b'/' {
+    if *second == SLASH {
         return match line_end(inside) {
             Some(n) => Some(2 + n),
             None => None,
         };
     }
-    if *second == b'*' {
+    if *second == STAR {
         return match comment_end(inside) {
             Some(n) => Some(2 + n),
             None => None,
@@ -52,7 +53,7 @@ fn trivia_piece_end(bytes: &[u8]) -> Option<usize>
     if is_blank(*first) {
         return Some(1);
     }
-    if *first == b'/' {
+    if *first == SLASH {
         return slash_end(behind);
     }
     None
