@@ -1,6 +1,4 @@
-pub mod CommandLemmas
 pub mod ParsedLemmas
-pub mod NameLemmas
 pub mod OutcomeLemmas
 pub mod CallLemmas
 pub mod BuildLemmas

@@ -9,8 +9,9 @@ use Rattle.drv_outside.specs.Plain.{is_plain_name, is_plain_path}
 use Rattle.integer_globals.specs.declared.trees.FileTree.{FileTree}
 use Rattle.integer_module.specs.declared.outcome.Outcome.{Outcome}
 use Rattle.integer_module.specs.declared.outcome.Outcome.TheVariants.{Object, Errors}
-use Rattle.driver_cmd.proofs.NameLemmas.{object_name_plain}
-use Rattle.driver_cmd.specs.Clean.{object_name, errors_in, objects_of}
+use Rattle.output_names.specs.Stems.{object_name}
+use Rattle.output_names.proofs.StemsLemmas.{object_name_plain}
+use Rattle.driver_cmd.specs.Clean.{errors_in, objects_of}
 use Rattle.disk_commit.specs.declared.files.File.{File}
 
 -- the lines of errors and of more

@@ -1,5 +1,6 @@
 use Rattle.std.proofs.Common.{◌≡◌, ◌+◌, ◌≤◌, ◌<◌, ℕ, List, [], ◌∷◌, ◌++◌, length, take, Option, Some, None, refl, sym, ap, subst, ◌∙◌, arith, drop, append_assoc, append-nil, suc, get_or, add-one, map, true, false, not, cond, ◌&&◌}
 use Rattle.std.proofs.Math.Seq.{drop-cons}
+use Rattle.std.proofs.lemmas.Bool.{and_parts}
 use Rattle.std.proofs.lemmas.List.{length-take, take_all, map-append}
 use Rattle.std.specs.Prelude.{min}
 use Rattle.std.specs.Prelude.{IfSome}
@@ -14,22 +15,23 @@ use Rattle.drv_outside.specs.declared.types.Source.{Source}
 use Rattle.integer_globals.specs.Grammar.{IsTreeOf}
 use Rattle.integer_globals.specs.declared.trees.FileTree.{FileTree}
 use Rattle.driver_cmd.specs.Clean.{not_plain_error, not_plain_errors, too_many_error, listing_errors, trees_of}
-use Rattle.driver_cmd.proofs.CommandLemmas.{front, back}
 use Rattle.driver_cmd.specs.Parsed.{IsParsed, AreParsed, parsed_path, entry_paths}
 use Rattle.driver_cmd.specs.declared.listing.TheConstants.{MOST_SOURCES}
+use Rattle.swift_token.specs.declared.limits.TheConstants.{MAX_FILE_BYTES}
+use Rattle.driver_cmd.specs.declared.parsed.TheConstants.{MOST_READ}
 use Rattle.driver_cmd.specs.declared.parsed.Parsed.{Parsed}
 use Rattle.driver_cmd.specs.declared.parsed.Parsed.TheVariants.{Tree, NoTree}
 
 -- a text that is short enough in its first bytes is no longer than these
-whole : (text : List ℕ) → length (take 262145 text) ≤ 262144 → take 262145 text ≡ text
-whole text h = let n : length (take 262145 text) ≡ min 262145 (length text) = length-take 262145 text in take_all 262145 text (omega (arith, n))
+whole : (text : List ℕ) → length (take MOST_READ text) ≤ MAX_FILE_BYTES → take MOST_READ text ≡ text
+whole text h = let n : length (take MOST_READ text) ≡ min MOST_READ (length text) = length-take MOST_READ text in take_all MOST_READ text (omega (arith, n))
 
 -- a text that is short enough is among its first bytes
-all_taken : (text : List ℕ) → length text ≤ 262144 → take 262145 text ≡ text
-all_taken text h = take_all 262145 text (omega arith)
+all_taken : (text : List ℕ) → length text ≤ MAX_FILE_BYTES → take MOST_READ text ≡ text
+all_taken text h = take_all MOST_READ text (omega arith)
 
 -- what the first bytes are parsed to is what the text is parsed to
-pub parsed_whole : (path text : List ℕ) (file : Parsed) → IsParsed path (take 262145 text) file → IsParsed path text file
+pub parsed_whole : (path text : List ℕ) (file : Parsed) → IsParsed path (take MOST_READ text) file → IsParsed path text file
 parsed_whole path text (Tree file) p = (p.0, subst (λ bytes. IsTreeOf file.declarations bytes) (whole text p.1.0) p.1)
 parsed_whole path text (NoTree at) p = (p.0, λ declarations is. p.1 declarations (subst (λ bytes. IsTreeOf declarations bytes) (sym (all_taken text is.0)) is))
 
@@ -46,11 +48,11 @@ no_files entries files (Some t) none = λ rest is. rw none is
 
 -- what a source was read to
 pub parsed_source : (path asked copy text bytes : List ℕ) (file : Parsed) (observed : Option TreeState) → asked ≡ path → copy ≡ path → bytes ≡ text
-    → IfSome observed (λ t. text ≡ take 262145 (bytes_at asked t.sources)) → IsParsed copy bytes file
+    → IfSome observed (λ t. text ≡ take MOST_READ (bytes_at asked t.sources)) → IsParsed copy bytes file
     → IfSome observed (λ t. IsParsed path (bytes_at path t.sources) file)
 parsed_source path asked copy text bytes file None was same is read parsed = tt
 parsed_source path asked copy text bytes file (Some t) was same is read parsed =
-    let whole_text : bytes ≡ take 262145 (bytes_at path t.sources) = is ∙ read ∙ ap (λ p. take 262145 (bytes_at p t.sources)) was in
+    let whole_text : bytes ≡ take MOST_READ (bytes_at path t.sources) = is ∙ read ∙ ap (λ p. take MOST_READ (bytes_at p t.sources)) was in
     parsed_whole path (bytes_at path t.sources) file (subst (λ b. IsParsed path b file) whole_text (subst (λ p. IsParsed p bytes file) same parsed))
 
 -- what is left at a place is the item there and what is left behind it
@@ -106,5 +108,5 @@ listed_plain paths none =
 pub trees_plain : (files : List Parsed) → list_all is_plain_path (map parsed_path files) ≡ true → All (λ (file : FileTree). is_plain_path file.path ≡ true) (trees_of files)
 trees_plain [] plain = All-nil (λ (file : FileTree). is_plain_path file.path ≡ true)
 trees_plain (Tree file ∷ files) plain =
-    All-cons (λ (f : FileTree). is_plain_path f.path ≡ true) file (trees_of files) (front (is_plain_path file.path) _ plain) (trees_plain files (back (is_plain_path file.path) _ plain))
-trees_plain (NoTree path ∷ files) plain = trees_plain files (back (is_plain_path path) _ plain)
+    All-cons (λ (f : FileTree). is_plain_path f.path ≡ true) file (trees_of files) (and_parts (is_plain_path file.path) _ plain).0 (trees_plain files (and_parts (is_plain_path file.path) _ plain).1)
+trees_plain (NoTree path ∷ files) plain = trees_plain files (and_parts (is_plain_path path) _ plain).1

@@ -9,6 +9,7 @@ use Rattle.std.proofs.lemmas.Slice.Eq.{bytes_eq-Decides}
 use Rattle.swift_ast.specs.declared.TokenKind.{TokenKind}
 use Rattle.swift_ast.specs.declared.TokenKind.TheVariants as kind
 use Rattle.swift_ast.specs.Leaves.{Leaf}
+use Rattle.swift_token.specs.declared.limits.TheConstants.{MAX_FILE_BYTES}
 use Rattle.swift_token.specs.Texts.{is_blank}
 use Rattle.swift_token.specs.Spelling.{IsTokenIn, IsPlaced, IsBlanks, SpellsByBlanks, is_line_feed, line_behind, column_behind}
 use Rattle.swift_token.proofs.Words.{token_some}
@@ -287,7 +288,7 @@ file_from (suc n) all (t ∷ ts) done short h =
 abbrev pub TreeOf : List ℕ → Type 0
 TreeOf text = (found : Option (List Declaration)) × IsTheTree found text
 
-tree_of_tokens : (text : List ℕ) → length text ≤ 262144 → Lexing text → TreeOf text
+tree_of_tokens : (text : List ℕ) → length text ≤ MAX_FILE_BYTES → Lexing text → TreeOf text
 tree_of_tokens text short (unspelled none) = (None, tree_no_tokens text none)
 tree_of_tokens text short (spelled ts spells only) =
     let file = file_from (length ts) ts ts [] (omega arith) (declarations_start ts) in
@@ -296,7 +297,7 @@ tree_of_tokens text short (spelled ts spells only) =
 -- Exactly one tree, or none, is that of the text.
 pub the_tree : (text : List ℕ) → TreeOf text
 the_tree text =
-    elim (cases_order 262144 (length text)) [
+    elim (cases_order MAX_FILE_BYTES (length text)) [
       | inl e ↦ tree_of_tokens text (omega (arith, e)) (lexing text)
       | inr d ↦ elim d [
         | inl lt ↦ (None, tree_too_long text (λ h. omega (arith, lt, h)))

@@ -1,5 +1,5 @@
 -- What a build from nothing gives: its error lines, and what it leaves in the build folder.
-use Rattle.std.specs.Prelude.{◌≡◌, ◌≢◌, ℕ, ◌-◌, ◌==◌, not, nat_le, List, [], ◌∷◌, ◌++◌, map, filter, flat_map, take, length, codes, decimal, Option, Some, None, if◌then◌else◌}
+use Rattle.std.specs.Prelude.{◌≡◌, ◌≢◌, ℕ, not, nat_le, List, [], ◌∷◌, ◌++◌, map, filter, flat_map, length, codes, decimal, Option, Some, None, if◌then◌else◌}
 use Rattle.diag_text.specs.Line.{lines_of}
 use Rattle.diag_text.specs.declared.diag.Diag.{Diag}
 use Rattle.disk_commit.specs.Files.{folder_of}
@@ -12,6 +12,7 @@ use Rattle.integer_globals.specs.declared.trees.FileTree.{FileTree}
 use Rattle.integer_module.specs.Outcomes.{outcome_of}
 use Rattle.integer_module.specs.declared.outcome.Outcome.{Outcome}
 use Rattle.integer_module.specs.declared.outcome.Outcome.TheVariants.{Object, Errors}
+use Rattle.output_names.specs.Stems.{object_name}
 use Rattle.driver_cmd.specs.Calls.{PassedCalls, AreSynced}
 use Rattle.driver_cmd.specs.Parsed.{AreParsed, source_paths}
 use Rattle.driver_cmd.specs.declared.listing.TheConstants.{MOST_SOURCES}
@@ -49,13 +50,6 @@ tree_of (NoTree path) = []
 
 abbrev pub trees_of : List Parsed → List FileTree
 trees_of = flat_map tree_of
-
--- The name of a file's object: its path with `.o` in place of `.swift`, and `~` for each `/`.
-abbrev pub without_slash : ℕ → ℕ
-without_slash byte = if byte == 47 then 126 else byte
-
-abbrev pub object_name : List ℕ → List ℕ
-object_name path = map without_slash (take (length path - 6) path) ++ codes ".o"
 
 abbrev pub errors_in : Outcome → List Diag
 errors_in (Object text) = []

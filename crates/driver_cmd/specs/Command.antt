@@ -1,7 +1,7 @@
 -- The words of a command line: a folder, and the words of a command, `build -module-name MODULE`.
-use Rattle.std.specs.Prelude.{◌≡◌, ◌==◌, ℕ, Bool, false, ◌&&◌, nat_le, List, [], ◌∷◌, length, codes, Result, Ok, Err, if◌then◌else◌}
+use Rattle.std.specs.Prelude.{◌≡◌, ◌==◌, ℕ, false, List, [], ◌∷◌, length, codes, Result, Ok, Err, if◌then◌else◌}
 use Rattle.std.specs.Str.{bytes_eq, IsUtf8}
-use Rattle.swift_token.specs.Texts.{is_identifier}
+use Rattle.output_names.specs.ModuleNames.{is_module_name}
 
 -- A folder is named by a text in UTF-8 that isn't empty.
 abbrev pub IsFolderName : List ℕ → Type 0
@@ -11,10 +11,6 @@ IsFolderName word = ((length word == 0) ≡ false) × IsUtf8 word
 abbrev pub NamesNoFolder : List (List ℕ) → Type 0
 NamesNoFolder [] = Unit {0}
 NamesNoFolder (word ∷ rest) = ¬ IsFolderName word
-
--- A module name is an identifier of at most 100 bytes.
-unfoldable pub is_module_name : List ℕ → Bool
-is_module_name word = nat_le (length word) 100 && is_identifier word
 
 -- Nothing follows the third word.
 abbrev pub last_of : List ℕ → List (List ℕ) → Result (List ℕ) ℕ

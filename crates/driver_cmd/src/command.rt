@@ -1,10 +1,8 @@
 ghost use Rattle.std.specs.Prelude.{◌≡◌, Ok, Err, MatchOption, MatchResult};
-ghost use Rattle.driver_cmd.specs.Command.{IsFolderName, is_module_name, module_of, option_of, request_of};
+ghost use Rattle.driver_cmd.specs.Command.{IsFolderName, module_of, option_of, request_of};
 
 use drv_outside::Text;
-use swift_token::{is_keyword, is_word};
-
-const MOST_MODULE_NAME_BYTES: usize = 100;
+use output_names::is_module_name;
 
 /// The project folder that the first word of a command line names: a text that isn't empty, since
 /// an empty one would be the root of the file system once a name stands behind it.
@@ -18,20 +16,6 @@ pub fn folder_name(word: &Text) -> Option<&str>
     match str::from_utf8(word) {
         Ok(folder) => Some(folder),
         Err(_) => None,
-    }
-}
-
-// Whether a word is an identifier that may name a module.
-#[tactic(auto, unfolding(crate::specs::Command::is_module_name))]
-fn is_module_name(word: &[u8]) -> bool
-    ensures { result ≡ is_module_name word.now }
-{
-    if word.len() > MOST_MODULE_NAME_BYTES || !is_word(word) {
-        return false;
-    }
-    match str::from_utf8(word) {
-        Ok(text) => !is_keyword(text),
-        Err(_) => false,
     }
 }
 

@@ -1,46 +1,16 @@
-ghost use Rattle.std.specs.Prelude.{◌≡◌, ◌++◌, length, map, flat_map, codes, All, IsTrue, IfOk, OnOk};
+ghost use Rattle.std.specs.Prelude.{◌≡◌, ◌++◌, length, flat_map, All, IsTrue, IfOk, OnOk};
 ghost use Rattle.diag_text.specs.Line.{lines_of};
 ghost use Rattle.drv_outside.specs.Plain.{is_plain_path};
 ghost use Rattle.integer_globals.specs.declared.trees.FileTree.{FileTree};
-ghost use Rattle.driver_cmd.specs.Clean.{without_slash, object_name, errors_in, objects_of};
+ghost use Rattle.driver_cmd.specs.Clean.{errors_in, objects_of};
 
 use diag_text::lines;
 use disk_commit::File;
-use drv_outside::{Name, NoMemory};
+use drv_outside::NoMemory;
 use integer_globals::FileTree;
 use integer_module::Outcome;
+use output_names::object_name;
 use std::alloc::Global;
-
-/// The bytes of `.swift`.
-const ENDING_BYTES: usize = 6;
-
-fn without_slash(byte: u8) -> u8
-    ensures { result ≡ without_slash byte }
-{
-    if byte == b'/' { b'~' } else { byte }
-}
-
-// The bytes of an object's name, from its path without the ending.
-fn name_bytes(alloc: Global, stem: &[u8]) -> Result<Vec<u8>, NoMemory>
-    ensures { IfOk result (λ name. name.items ≡ map without_slash stem.now ++ codes ".o") }
-{
-    let mut name: Vec<u8> = stem.iter().map(|byte| without_slash(*byte)).collect(alloc)?;
-    name.extend_from_slice(b".o")?;
-    Ok(name)
-}
-
-/// The name of the object of the source at a path.
-#[tactic(auto, using(crate::proofs::NameLemmas::long_path))]
-pub fn object_name(alloc: Global, path: &str) -> Result<Name, NoMemory>
-    requires { IsTrue (is_plain_path path.now) }
-    ensures { IfOk result (λ name. name ≡ object_name path.now) }
-{
-    let bytes = path.as_bytes();
-    let name = name_bytes(alloc, &bytes[..bytes.len() - ENDING_BYTES])?;
-    let name = String::from_utf8(name).unwrap();
-    let name = Name::from_string(name)?;
-    Ok(name)
-}
 
 // Puts the errors of an outcome behind the text so far.
 fn push_errors(alloc: Global, text: &mut Vec<u8>, outcome: &Outcome) -> Result<(), NoMemory>

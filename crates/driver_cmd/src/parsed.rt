@@ -11,9 +11,10 @@ use diag_text::Diag;
 use drv_outside::{Entry, NoMemory, Path, Status, Text, Tree as Sources};
 use integer_globals::{FileTree, read_declarations};
 use std::alloc::Global;
+use swift_token::MAX_FILE_BYTES;
 
 /// One byte more than a source file may have, so that a longer one shows.
-const MOST_READ: usize = 262_145;
+pub const MOST_READ: usize = MAX_FILE_BYTES + 1;
 
 /// A source file once it was read.
 #[derive(Debug, Drop)]
