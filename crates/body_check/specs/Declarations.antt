@@ -42,7 +42,7 @@ use Rattle.typed_code.specs.declared.units.Unit.TheVariants as unit
 use Rattle.checks.specs.Checks.{Check, sure, unsaid, behind, found, ◌>>=◌, both, noting, tried, hushed, all}
 use Rattle.checks.specs.OwnKeys.{Asked, Use, Own, used, owned}
 use Rattle.expr_check.specs.declared.line.Line.{Line}
-use Rattle.expr_check.specs.declared.message.Message.TheVariants as is
+use Rattle.expr_check.specs.Message as is
 use Rattle.expr_check.specs.declared.typed.Typed.{Typed}
 use Rattle.expr_check.specs.declared.scope.Scope.{Scope}
 use Rattle.expr_check.specs.Messages.{line, place_of}

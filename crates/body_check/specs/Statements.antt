@@ -18,7 +18,7 @@ use Rattle.typed_code.specs.declared.step.Step.{Step}
 use Rattle.typed_code.specs.declared.step.Step.TheVariants as step
 use Rattle.typed_code.specs.declared.step.Branch.{Branch}
 use Rattle.checks.specs.Checks.{sure, unsaid, ◌>>=◌, both, noting, tried}
-use Rattle.expr_check.specs.declared.message.Message.TheVariants as is
+use Rattle.expr_check.specs.Message as is
 use Rattle.expr_check.specs.declared.place.Place.{Place}
 use Rattle.expr_check.specs.declared.typed.Typed.{Typed}
 use Rattle.expr_check.specs.declared.named.Named.{Named}

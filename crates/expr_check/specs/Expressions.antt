@@ -22,7 +22,7 @@ use Rattle.typed_code.specs.declared.step.Operator.{Operator}
 use Rattle.typed_code.specs.declared.step.Operator.TheVariants as operator
 use Rattle.checks.specs.Checks.{sure, unsaid, ◌>>=◌, all}
 use Rattle.expr_check.specs.declared.place.Place.{Place}
-use Rattle.expr_check.specs.declared.message.Message.TheVariants as is
+use Rattle.expr_check.specs.Message as is
 use Rattle.expr_check.specs.declared.typed.Typed.{Typed}
 use Rattle.expr_check.specs.declared.named.Named.{Named}
 use Rattle.expr_check.specs.declared.named.Named.TheVariants as named

@@ -1,5 +1,8 @@
+pub mod Examples
 pub mod Expressions
+pub mod Found
 pub mod Laws
+pub mod Message
 pub mod Messages
 pub mod Phrases
 pub mod Scopes

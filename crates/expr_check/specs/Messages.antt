@@ -11,11 +11,11 @@ use Rattle.swift_ast.specs.Leaves.{Leaf}
 use Rattle.checks.specs.Logs.{Orders}
 use Rattle.expr_check.specs.declared.line.Line.{Line}
 use Rattle.expr_check.specs.declared.place.Place.{Place}
-use Rattle.expr_check.specs.declared.message.Message.{Message}
-use Rattle.expr_check.specs.declared.message.Message.TheVariants as is
+use Rattle.expr_check.specs.Message.{Message}
+use Rattle.expr_check.specs.Message as is
 
 -- a name in a sentence
-unfoldable pub about : List ℕ → List ℕ → List ℕ → List ℕ
+abbrev pub about : List ℕ → List ℕ → List ℕ → List ℕ
 about before name after = before ++ name ++ after
 
 -- What is said, each below its place and its cause.

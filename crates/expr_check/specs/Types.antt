@@ -12,8 +12,8 @@ use Rattle.swift_ast.specs.Leaves.{Leaf}
 use Rattle.checks.specs.Checks.{Check, sure, error, ◌>>=◌, noting}
 use Rattle.expr_check.specs.declared.line.Line.{Line}
 use Rattle.expr_check.specs.declared.place.Place.{Place}
-use Rattle.expr_check.specs.declared.message.Message.{Message}
-use Rattle.expr_check.specs.declared.message.Message.TheVariants as is
+use Rattle.expr_check.specs.Message.{Message}
+use Rattle.expr_check.specs.Message as is
 use Rattle.expr_check.specs.declared.scope.Scope.{Scope}
 use Rattle.expr_check.specs.Messages.{line, place_of}
 use Rattle.expr_check.specs.Scopes.{same_text}

@@ -7,16 +7,25 @@
 
 mod laws;
 mod line;
-mod message;
+mod log;
+mod members;
 mod named;
+mod names;
+mod operators;
 mod place;
+mod say;
 mod scope;
 mod typed;
+mod types;
 
-pub use laws::expression_laws;
+pub use laws::{expression_laws, worked_expressions};
 pub use line::Line;
-pub use message::Message;
+pub use log::Log;
+pub use members::{member_named, member_value};
 pub use named::Named;
+pub use names::{name_check, name_of, name_value, self_value};
+pub use operators::{binary, converted, unary};
 pub use place::Place;
 pub use scope::{Local, Scope};
 pub use typed::Typed;
+pub use types::{Found, laid_out, type_named, type_written, valued};
