@@ -35,7 +35,7 @@ use Rattle.typed_code.specs.declared.step.Step.{Step}
 use Rattle.checks.specs.Checks.{both, tried, hushed, noting, go_on, all, sure}
 use Rattle.checks.specs.OwnKeys.{answering, used, owned}
 use Rattle.expr_check.specs.declared.scope.Scope.{Scope}
-use Rattle.expr_check.specs.declared.message.Message.TheVariants as is
+use Rattle.expr_check.specs.Message as is
 use Rattle.expr_check.specs.Messages.{line, place_of}
 use Rattle.expr_check.specs.Scopes.{declaring}
 use Rattle.expr_check.specs.Types.{CheckOf, type_named, type_written, laid_out}
