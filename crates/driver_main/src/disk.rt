@@ -5,8 +5,9 @@ ghost use Rattle.drv_outside.specs.Plain.{is_plain_name};
 
 use drv_outside::{Name, is_plain_name};
 use std::alloc::{AllocError, Global};
-use std::fs::{Metadata, OpenFile};
+use std::fs::{File, Metadata, OpenFile};
 use std::io::{ErrorKind, Read, Write};
+use std::os::unix::fs::MetadataExt;
 use std::rt::Files;
 use std::{fs, io};
 
@@ -27,23 +28,64 @@ fn standing<R: Files>(rt: &R, path: &str) -> io::Result<Option<Metadata>> {
     }
 }
 
-/// The first `most` bytes of a file.
-pub fn first_bytes<R: Files + AllocGlobal>(rt: &R, path: &str, most: u64) -> io::Result<Vec<u8>> {
-    let metadata = fs::symlink_metadata(rt, path)?;
-    if !metadata.is_file() || metadata.len() > MOST_BYTES {
-        return Err(io::Error::from(ErrorKind::InvalidData));
+// Refuses what is no file, or a larger file than is read.
+fn check_file(metadata: &Metadata) -> io::Result<()> {
+    if metadata.is_dir() {
+        return Err(io::Error::from(ErrorKind::IsADirectory));
     }
-    let mut bytes = Vec::new(rt.alloc());
+    if !metadata.is_file() {
+        return Err(io::Error::new(ErrorKind::InvalidData, "not a file"));
+    }
+    if metadata.len() > MOST_BYTES {
+        return Err(io::Error::from(ErrorKind::FileTooLarge));
+    }
+    Ok(())
+}
+
+// Opens the file that was seen at a path. What was put there since, as a link, is refused.
+fn open_seen<R: Files>(rt: &R, path: &str, seen: &Metadata) -> io::Result<R::File> {
+    check_file(seen)?;
     let file = fs::open(rt, path)?;
+    let opened = file.metadata()?;
+    if (opened.dev(), opened.ino()) != (seen.dev(), seen.ino()) {
+        return Err(io::Error::new(ErrorKind::InvalidData, "replaced while it was read"));
+    }
+    Ok(file)
+}
+
+// The first `most` bytes of the file that was seen at a path.
+fn bytes_seen<R: Files + AllocGlobal>(
+    rt: &R,
+    path: &str,
+    seen: &Metadata,
+    most: u64,
+) -> io::Result<Vec<u8>> {
+    let mut bytes = Vec::new(rt.alloc());
+    let file = open_seen(rt, path, seen)?;
     file.take(most).read_to_end(&mut bytes)?;
     Ok(bytes)
+}
+
+/// The first `most` bytes of a file.
+pub fn first_bytes<R: Files + AllocGlobal>(rt: &R, path: &str, most: u64) -> io::Result<Vec<u8>> {
+    let seen = fs::symlink_metadata(rt, path)?;
+    bytes_seen(rt, path, &seen, most)
 }
 
 /// All bytes of a file, or None where there is none.
 pub fn all_bytes<R: Files + AllocGlobal>(rt: &R, path: &str) -> io::Result<Option<Vec<u8>>> {
     match standing(rt, path)? {
-        Some(_) => Ok(Some(first_bytes(rt, path, MOST_BYTES)?)),
+        Some(seen) => Ok(Some(bytes_seen(rt, path, &seen, MOST_BYTES)?)),
         None => Ok(None),
+    }
+}
+
+// Whether a folder stands at a path. What stands there and is none is refused.
+fn is_folder<R: Files>(rt: &R, path: &str) -> io::Result<bool> {
+    match standing(rt, path)? {
+        None => Ok(false),
+        Some(metadata) if metadata.is_dir() => Ok(true),
+        Some(_) => Err(io::Error::from(ErrorKind::NotADirectory)),
     }
 }
 
@@ -55,10 +97,8 @@ fn file_names<R: Files + AllocGlobal + Clone + Drop>(
 ) -> io::Result<Vec<Name>> {
     let alloc = rt.alloc();
     let mut names = Vec::new(alloc);
-    match standing(rt, folder)? {
-        None => return Ok(names),
-        Some(metadata) if metadata.is_dir() => {}
-        Some(_) => return Err(io::Error::from(ErrorKind::NotADirectory)),
+    if !is_folder(rt, folder)? {
+        return Ok(names);
     }
     for entry in fs::read_dir(rt, folder)? {
         let entry = match entry {
@@ -99,16 +139,14 @@ pub fn plain_names<R: Files + AllocGlobal + Clone + Drop>(
     Ok(plain)
 }
 
-/// Writes a file whole. What stands there and is no file, as a link, isn't written through.
-pub fn write_whole<R: Files + AllocGlobal>(rt: &R, path: &str, bytes: &[u8]) -> io::Result<()> {
-    if let Some(metadata) = standing(rt, path)? {
-        if !metadata.is_file() {
-            return Err(io::Error::from(ErrorKind::AlreadyExists));
-        }
-    }
-    let mut file = fs::create(rt, path)?;
+/// Writes a file anew, and gives it still open. What stood under its name is removed first: another
+/// link to it keeps its bytes, nothing is written through a link, and a file without the right to be
+/// written is no hindrance.
+pub fn write_anew<R: Files>(rt: &R, path: &str, bytes: &[u8]) -> io::Result<R::File> {
+    remove(rt, path)?;
+    let mut file = File::create_new(rt, path)?;
     file.write_all(bytes)?;
-    Ok(())
+    Ok(file)
 }
 
 /// Removes a file, where it is there.
@@ -119,16 +157,12 @@ pub fn remove<R: Files>(rt: &R, path: &str) -> io::Result<()> {
     }
 }
 
-/// Makes a folder. Answers whether it was not there before.
-pub fn make_folder<R: Files>(rt: &R, path: &str) -> io::Result<bool> {
-    match standing(rt, path)? {
-        None => {
-            fs::create_dir(rt, path)?;
-            Ok(true)
-        }
-        Some(metadata) if metadata.is_dir() => Ok(false),
-        Some(_) => Err(io::Error::from(ErrorKind::NotADirectory)),
+/// Makes a folder where it isn't there.
+pub fn make_folder<R: Files>(rt: &R, path: &str) -> io::Result<()> {
+    if !is_folder(rt, path)? {
+        fs::create_dir(rt, path)?;
     }
+    Ok(())
 }
 
 /// Brings a file or a folder to the disk. One that isn't there has nothing to bring.

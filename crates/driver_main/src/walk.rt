@@ -4,6 +4,7 @@ ghost use Rattle.std.specs.Prelude.{IfOk};
 ghost use Rattle.drv_outside.specs.TreeState.{AscendByPath};
 
 use crate::disk::joined;
+use crate::failure::Failure;
 use drv_outside::{Entry, Path, Stamp, ascend_by_path};
 use std::alloc::Global;
 use std::fs::Metadata;
@@ -85,23 +86,22 @@ fn is_passed_over(folder: &str, name: &[u8]) -> bool {
 fn take<R: Files + AllocGlobal>(
     rt: &R,
     whole: &str,
-    folder: &Pending,
-    name: &str,
+    levels: u32,
+    path: &str,
     walk: &mut Walk,
 ) -> io::Result<()> {
-    let alloc = rt.alloc();
-    let metadata = fs::symlink_metadata(rt, joined(alloc, whole, name)?.as_str())?;
-    let path = below(alloc, folder.below.as_str(), name)?;
+    let metadata = fs::symlink_metadata(rt, whole)?;
+    let path = String::from_str(rt.alloc(), path)?;
     if metadata.is_dir() {
-        if folder.levels == 0 {
-            return Err(io::Error::from(ErrorKind::InvalidData));
-        }
-        let levels = folder.levels - 1;
+        let Some(levels) = levels.checked_sub(1) else {
+            let message = "more than 100 levels below the project folder";
+            return Err(io::Error::new(ErrorKind::InvalidData, message));
+        };
         walk.pending.push(Pending {
             below: path,
             levels,
         })?;
-    } else if metadata.is_file() && name.ends_with(".swift") {
+    } else if metadata.is_file() && path.ends_with(".swift") {
         let stamp = stamp_of(&metadata)?;
         let path = Path::from_string(path);
         walk.entries.push(Entry { path, stamp })?;
@@ -109,34 +109,55 @@ fn take<R: Files + AllocGlobal>(
     Ok(())
 }
 
-// Reads one folder: its sources, and the folders in it. A name that isn't UTF-8 is refused, unless
-// it is passed over: what stands under it can't be asked for.
+// Takes what stands under a name in a folder into the walk. A name that isn't UTF-8 is refused, since
+// what stands under it can't be asked for.
+fn take_name<R: Files + AllocGlobal>(
+    rt: &R,
+    whole: &str,
+    folder: &Pending,
+    name: &[u8],
+    walk: &mut Walk,
+) -> Result<(), Failure> {
+    let alloc = rt.alloc();
+    let parent = folder.below.as_str();
+    let Ok(name) = str::from_utf8(name) else {
+        let error = io::Error::new(ErrorKind::InvalidFilename, "a name in it isn't UTF-8");
+        return Err(Failure::at(alloc, parent, error));
+    };
+    let path = below(alloc, parent, name).map_err(|e| Failure::at(alloc, parent, e))?;
+    let whole = joined(alloc, whole, name).map_err(|e| Failure::at(alloc, parent, e))?;
+    take(rt, whole.as_str(), folder.levels, path.as_str(), walk).map_err(|e| Failure::at(
+        alloc,
+        path.as_str(),
+        e,
+    ))
+}
+
+// Reads one folder: its sources, and the folders in it.
 fn read_one<R: Files + AllocGlobal>(
     rt: &R,
     whole: &str,
     folder: &Pending,
     walk: &mut Walk,
-) -> io::Result<()> {
-    let names = names_in(rt, whole)?;
+) -> Result<(), Failure> {
+    let parent = folder.below.as_str();
+    let names = names_in(rt, whole).map_err(|e| Failure::at(rt.alloc(), parent, e))?;
     for name in names.split(|byte| *byte == 0) {
-        if is_passed_over(folder.below.as_str(), name) {
-            continue;
+        if !is_passed_over(parent, name) {
+            take_name(rt, whole, folder, name, walk)?;
         }
-        let Ok(name) = str::from_utf8(name) else {
-            return Err(io::Error::from(ErrorKind::InvalidFilename));
-        };
-        take(rt, whole, folder, name, walk)?;
     }
     Ok(())
 }
 
 // Entries in byte order of path. A path that is there twice is refused.
-fn in_order(mut entries: Vec<Entry>) -> io::Result<Vec<Entry>>
+fn in_order(alloc: Global, mut entries: Vec<Entry>) -> Result<Vec<Entry>, Failure>
     ensures { IfOk result (λ entries. AscendByPath entries.items) }
 {
     entries.sort_by(|a, b| a.path.cmp(&b.path))?;
     if !ascend_by_path(&entries) {
-        return Err(io::Error::from(ErrorKind::InvalidData));
+        let error = io::Error::new(ErrorKind::InvalidData, "a path is listed twice");
+        return Err(Failure::at(alloc, "", error));
     }
     Ok(entries)
 }
@@ -147,7 +168,7 @@ fn in_order(mut entries: Vec<Entry>) -> io::Result<Vec<Entry>>
 pub fn sources<R: Files + AllocGlobal + Clone + Drop>(
     rt: &R,
     folder: &str,
-) -> io::Result<Vec<Entry>>
+) -> Result<Vec<Entry>, Failure>
     ensures { IfOk result (λ entries. AscendByPath entries.items) }
 {
     let alloc = rt.alloc();
@@ -164,10 +185,14 @@ pub fn sources<R: Files + AllocGlobal + Clone + Drop>(
         let Some(next) = walk.pending.pop() else {
             break;
         };
-        let whole = joined(alloc, folder, next.below.as_str())?;
+        let whole = joined(alloc, folder, next.below.as_str()).map_err(|e| Failure::at(
+            alloc,
+            next.below.as_str(),
+            e,
+        ))?;
         read_one(rt, whole.as_str(), &next, &mut walk)?;
     }
     let Walk { entries, .. } = walk;
-    let ordered = in_order(entries)?;
+    let ordered = in_order(alloc, entries)?;
     Ok(ordered)
 }
