@@ -93,12 +93,12 @@ def ratio(small, big):
 
 
 def compare_sizes(name):
-    """Runs a program with 500 and with 2,000 as its word, and prints a line for each and the ratio of the two."""
+    """Runs the work of a program for 500 and for 2,000 files, and prints a line for each and the ratio of the two."""
     program, runs, own, counted = Program(name), option("--runs", 5), [], []
     for files in (500, 2000):
-        best = min((program.usage(files) for _ in range(runs)), key=lambda usage: usage.ru_utime)
+        best = min((program.usage("work", files) for _ in range(runs)), key=lambda usage: usage.ru_utime)
         own.append(best.ru_utime)
-        counted.append(program.instructions(files))
+        counted.append(program.instructions("work", files))
         print(f"{files:>5} files  own {best.ru_utime:.3f} s  system {best.ru_stime:.3f} s  peak {best.ru_maxrss / 1024:.1f} MiB"
               + (f"  {counted[-1] / 1e6:.1f} million instructions" if counted[-1] else ""))
     print(f"ratio of 2,000 to 500: own {ratio(*own)}" + (f", instructions {ratio(*counted)}" if all(counted) else ""))

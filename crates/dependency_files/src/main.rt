@@ -1,7 +1,7 @@
 //! Writes and reads dependency files.
 //!
-//! Without arguments it writes the file of a small graph, and prints its bytes and the graph that is
-//! read from them. With arguments it makes a large graph: see `USAGE`.
+//! Without words it writes the file of a small graph, and prints its bytes and the graph that is
+//! read from them. With words it makes a large graph: see `USAGE`.
 #![tactic(auto)]
 
 mod answers;
@@ -22,16 +22,16 @@ use std::{env, io};
 use task::Task;
 
 const USAGE: &str = "\
-usage: dependency_files                          the example: its bytes, and what is read from them
-       dependency_files bytes N U I              the file of a graph of N nodes with U uses each, from I identifiers
-       dependency_files graph N U I              that graph, as text
-       dependency_files write N U I TIMES        writes that file so many times, and prints the bytes written
-       dependency_files read N U I TIMES         writes it once, reads it so many times, and prints what was read
-       dependency_files input TIMES              reads the file on standard input so many times
-       dependency_files records TIMES            counts the records of the bitstream on standard input so many times
+usage: dependency_files                          the table: an example's bytes, and what is read from them
        dependency_files answers                  for each line of hexadecimal digits on standard input, which are a
                                                  file: the items of its bits behind the signature, and on the next
-                                                 line what it holds";
+                                                 line what it holds
+       dependency_files bytes N U I              the file of a graph of N nodes with U uses each, from I identifiers
+       dependency_files graph N U I              that graph, as text
+       dependency_files work write N U I TIMES   writes that file so many times, and prints the bytes written
+       dependency_files work read N U I TIMES    writes it once, reads it so many times, and prints what was read
+       dependency_files work input TIMES         reads the file on standard input so many times
+       dependency_files work records TIMES       counts the records of the bitstream on standard input so many times";
 
 // The graph behind the example: as many nodes as a module may have files.
 const LARGE: Shape = Shape {
@@ -138,7 +138,7 @@ fn main(rt: HostRuntime) -> Result<(), Error> {
     let words = words(&rt)?;
     match Task::from_words(&words) {
         None => Err(anyhow!("{USAGE}")),
-        Some(Task::Example) => print_example(&rt),
+        Some(Task::Table) => print_example(&rt),
         Some(Task::Bytes(shape)) => print_file(&rt, shape),
         Some(Task::Graph(shape)) => shown::print_graph(&rt, &large::graph(alloc, shape)?),
         Some(Task::Write(shape, times)) => {

@@ -3,7 +3,7 @@ use crate::large::Shape;
 /// What the words of the command line ask for.
 #[derive(Clone, Copy)]
 pub enum Task {
-    Example,
+    Table,
     Bytes(Shape),
     Graph(Shape),
     Write(Shape, usize),
@@ -17,24 +17,33 @@ impl Task {
     /// None where the words ask for nothing that there is.
     pub fn from_words(words: &[String]) -> Option<Task> {
         let Some((word, rest)) = words.split_first() else {
-            return Some(Task::Example);
+            return Some(Task::Table);
         };
         match word.as_str() {
             "bytes" => Some(Task::Bytes(shape(rest)?)),
             "graph" => Some(Task::Graph(shape(rest)?)),
-            "write" => {
-                let (shape, times) = shape_and_times(rest)?;
-                Some(Task::Write(shape, times))
-            }
-            "read" => {
-                let (shape, times) = shape_and_times(rest)?;
-                Some(Task::Read(shape, times))
-            }
-            "input" => Some(Task::Input(times(rest)?)),
-            "records" => Some(Task::Records(times(rest)?)),
+            "work" => work(rest),
             "answers" => Some(Task::Answers),
             _ => None,
         }
+    }
+}
+
+// What the words behind `work` ask for.
+fn work(words: &[String]) -> Option<Task> {
+    let (word, rest) = words.split_first()?;
+    match word.as_str() {
+        "write" => {
+            let (shape, times) = shape_and_times(rest)?;
+            Some(Task::Write(shape, times))
+        }
+        "read" => {
+            let (shape, times) = shape_and_times(rest)?;
+            Some(Task::Read(shape, times))
+        }
+        "input" => Some(Task::Input(times(rest)?)),
+        "records" => Some(Task::Records(times(rest)?)),
+        _ => None,
     }
 }
 

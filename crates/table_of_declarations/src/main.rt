@@ -2,20 +2,26 @@
 //!
 //! A line has the path of a file, the number of a declaration in it, one of its keys, and the
 //! declarations of the project that have the key, each as the number of its file and its own. Of a project
-//! of 2,000 files it prints how many providers all keys have together. With a number as its one argument
-//! it makes a project of so many files, and prints that alone.
+//! of 2,000 files it prints how many providers all keys have together. With words it prints that alone, of a
+//! project of so many files: see `USAGE`.
 #![tactic(auto)]
 
 mod answers;
 mod cases;
+mod task;
 mod work;
 
 use answers::{index_of, shown_file, shown_providers};
-use anyhow::Error;
+use anyhow::{Error, anyhow};
 use cases::{PROJECTS, Project};
 use decl_index::Index;
-use std::env::FillError;
 use std::rt::Env;
+use std::{env, io};
+use task::Task;
+
+const USAGE: &str = "\
+usage: table_of_declarations               the table
+       table_of_declarations work FILES    how many providers the keys of a project of so many files have";
 
 // Prints the keys of the declarations of each file.
 fn print_files<R: Print + AllocGlobal>(rt: &R, index: &Index) -> Result<(), Error> {
@@ -58,22 +64,24 @@ fn print_table<R: Print + AllocGlobal>(rt: &R) -> Result<(), Error> {
     print_made(rt)
 }
 
-// The number that is the first argument; None where there is none.
-fn asked<R: Env>(rt: &R) -> Option<usize> {
-    let mut buffer = [0u8; 16];
-    match rt.arg(1, &mut buffer) {
-        Ok(length) if length <= 16 => str::from_utf8(&buffer[..length]).ok()?.parse().ok(),
-        _ => None,
+// The words behind the program's name.
+fn words<R: Env + AllocGlobal>(rt: &R) -> io::Result<Vec<String>> {
+    let mut words = Vec::new(rt.alloc());
+    for word in env::args(rt)?.skip(1) {
+        words.push(word)?;
     }
+    Ok(words)
 }
 
 fn main(rt: HostRuntime) -> Result<(), Error> {
-    match asked(&rt) {
-        Some(files) => {
+    let words = words(&rt)?;
+    match Task::from_words(&words) {
+        None => Err(anyhow!("{USAGE}")),
+        Some(Task::Table) => print_table(&rt),
+        Some(Task::Work(files)) => {
             let count = work::providers(rt.alloc(), files)?;
             println!(rt; "{count}")?;
             Ok(())
         }
-        None => print_table(&rt),
     }
 }

@@ -1,22 +1,28 @@
 //! Prints what `file_map`, `build_record` and `module_merge` answer to a table of texts, and then does the work for as
 //! many files as a build may have: it assigns their names, writes and reads a record of them, makes an
-//! image of as many objects, and prints how long the texts are. With a number as its one argument it
-//! does the work alone, for so many files.
+//! image of as many objects, and prints how long the texts are. With words it does the work alone, for so many
+//! files: see `USAGE`.
 #![tactic(auto)]
 
 mod answers;
 mod cases;
 mod modules;
 mod order;
+mod task;
 mod work;
 
 use answers::{map_answer, names_answer, record_answer, shown_case, text_of};
-use anyhow::Error;
+use anyhow::{Error, anyhow};
 use cases::{ASSIGNED, LONG_MAPS, MAPS, RECORDS};
 use modules::{IMAGES, PARTIALS, TEXTS, image_answer, kind_answer, module_answer};
-use std::env::FillError;
 use std::rt::Env;
+use std::{env, io};
+use task::Task;
 use work::lengths;
+
+const USAGE: &str = "\
+usage: table_of_files               the table
+       table_of_files work FILES    the work alone, for so many files: how long the texts are";
 
 /// The most source files of a build.
 const MOST_SOURCES: usize = 2000;
@@ -50,22 +56,24 @@ fn print_table<R: Print + AllocGlobal>(rt: &R) -> Result<(), Error> {
     Ok(())
 }
 
-// The number that is the first argument; None where there is none.
-fn asked<R: Env>(rt: &R) -> Option<usize> {
-    let mut buffer = [0u8; 16];
-    match rt.arg(1, &mut buffer) {
-        Ok(length) if length <= 16 => str::from_utf8(&buffer[..length]).ok()?.parse().ok(),
-        _ => None,
+// The words behind the program's name.
+fn words<R: Env + AllocGlobal>(rt: &R) -> io::Result<Vec<String>> {
+    let mut words = Vec::new(rt.alloc());
+    for word in env::args(rt)?.skip(1) {
+        words.push(word)?;
     }
+    Ok(words)
 }
 
 fn main(rt: HostRuntime) -> Result<(), Error> {
-    match asked(&rt) {
-        Some(files) => {
+    let words = words(&rt)?;
+    match Task::from_words(&words) {
+        None => Err(anyhow!("{USAGE}")),
+        Some(Task::Table) => print_table(&rt),
+        Some(Task::Work(files)) => {
             let lengths = lengths(rt.alloc(), files)?;
             println!(rt; "{lengths}")?;
             Ok(())
         }
-        None => print_table(&rt),
     }
 }

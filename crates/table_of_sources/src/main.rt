@@ -1,7 +1,5 @@
-//! Prints what `parse_file` and `tokens` answer to a table of texts. With the words
-//! `WORK SHAPE BYTES FILES TIMES` it does the work so many times over files of the shape and the
-//! length, and prints how much it found; with the words `answers TEXT..` it prints what `parse_file` answers
-//! to each text.
+//! Prints what `parse_file` and `tokens` answer to a table of texts. With words it answers to other texts, or does
+//! the work that is timed: see `USAGE`.
 #![tactic(auto)]
 
 mod answers;
@@ -13,14 +11,17 @@ use answers::{bytes_of, file_answer, project_answer, shown_pieces, size_answer, 
 use anyhow::{Error, anyhow};
 use cases::{BYTES, GROUPS, LONG_TEXTS, PROJECT, TOKEN_TEXTS};
 use shapes::Shape;
-use std::alloc::{AllocError, Global};
-use std::env;
-use std::env::FillError;
 use std::rt::Env;
-use work::{Task, Work};
+use std::{env, io};
+use swift_token::MAX_FILE_BYTES;
+use work::Task;
 
-/// The most bytes that a source file may have.
-const MAX_FILE_BYTES: usize = 262_144;
+const USAGE: &str = "\
+usage: table_of_sources                                       the table
+       table_of_sources answers TEXT..                        what `parse_file` answers to each text
+       table_of_sources work WORK SHAPE BYTES FILES TIMES     the work so many times over files of the shape and the
+                                                              length, and how much it found: WORK is texts, tokens or
+                                                              trees";
 
 // Prints the answers to the texts of files that are written out.
 fn print_groups<R: Print + AllocGlobal>(rt: &R) -> Result<(), Error> {
@@ -80,39 +81,13 @@ fn print_rest<R: Print + AllocGlobal>(rt: &R) -> Result<(), Error> {
     Ok(())
 }
 
-// The word at a place, the program's name being at 0; empty where there is none.
-fn word<R: Env>(rt: &R, alloc: Global, place: usize) -> Result<String, AllocError> {
-    let mut buffer = [0u8; 16];
-    match rt.arg(place, &mut buffer) {
-        Ok(length) if length <= 16 => {
-            String::from_str(alloc, str::from_utf8(&buffer[..length]).unwrap_or(""))
-        }
-        _ => Ok(String::new(alloc)),
+// The words behind the program's name.
+fn words<R: Env + AllocGlobal>(rt: &R) -> io::Result<Vec<String>> {
+    let mut words = Vec::new(rt.alloc());
+    for word in env::args(rt)?.skip(1) {
+        words.push(word)?;
     }
-}
-
-fn number<R: Env>(rt: &R, alloc: Global, place: usize) -> Result<Option<usize>, AllocError> {
-    let word = word(rt, alloc, place)?;
-    Ok(word.as_str().parse().ok())
-}
-
-// What the words ask for; None where they don't ask for a work.
-fn asked<R: Env>(rt: &R, alloc: Global) -> Result<Option<Task>, AllocError> {
-    let work = Work::named(word(rt, alloc, 1)?.as_str());
-    let shape = Shape::named(word(rt, alloc, 2)?.as_str());
-    let bytes = number(rt, alloc, 3)?;
-    let files = number(rt, alloc, 4)?;
-    let times = number(rt, alloc, 5)?;
-    match (work, shape, bytes, files, times) {
-        (Some(work), Some(shape), Some(bytes), Some(files), Some(times)) => Ok(Some(Task {
-            work,
-            shape,
-            bytes,
-            files,
-            times,
-        })),
-        _ => Ok(None),
-    }
+    Ok(words)
 }
 
 // Prints the whole table.
@@ -123,31 +98,34 @@ fn print_table<R: Print + AllocGlobal>(rt: &R) -> Result<(), Error> {
     print_rest(rt)
 }
 
-// Prints the answer to each text behind the first word.
-fn print_answers<R: Env + Print + AllocGlobal>(rt: &R) -> Result<(), Error> {
-    for text in env::args(rt)?.skip(2) {
-        println!(rt; "{}", file_answer(rt.alloc(), text.as_bytes())?)?;
+// Prints the answer to each text.
+fn print_answers<R: Print + AllocGlobal>(rt: &R, texts: &[String]) -> Result<(), Error> {
+    for text in texts {
+        println!(rt; "{}", file_answer(rt.alloc(), text.as_str().as_bytes())?)?;
     }
     Ok(())
 }
 
 // Does the work that the words ask for, and prints how much it found.
-fn print_work<R: Env + Print + AllocGlobal>(rt: &R) -> Result<(), Error> {
-    let alloc = rt.alloc();
-    match asked(rt, alloc)? {
+fn print_work<R: Print + AllocGlobal>(rt: &R, words: &[String]) -> Result<(), Error> {
+    match Task::from_words(words) {
         Some(task) => {
-            let found = task.run(alloc)?;
+            let found = task.run(rt.alloc())?;
             println!(rt; "{found}")?;
             Ok(())
         }
-        None => Err(anyhow!("usage: answers TEXT.. or WORK SHAPE BYTES FILES TIMES")),
+        None => Err(anyhow!("{USAGE}")),
     }
 }
 
 fn main(rt: HostRuntime) -> Result<(), Error> {
-    match word(&rt, rt.alloc(), 1)?.as_str() {
-        "" => print_table(&rt),
-        "answers" => print_answers(&rt),
-        _ => print_work(&rt),
+    let words = words(&rt)?;
+    let Some((word, rest)) = words.split_first() else {
+        return print_table(&rt);
+    };
+    match word.as_str() {
+        "answers" => print_answers(&rt, rest),
+        "work" => print_work(&rt, rest),
+        _ => Err(anyhow!("{USAGE}")),
     }
 }

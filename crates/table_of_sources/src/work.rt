@@ -43,6 +43,10 @@ impl Work {
     }
 }
 
+fn number(word: &String) -> Option<usize> {
+    word.as_str().parse().ok()
+}
+
 // How many tokens a text has.
 fn tokens_in(alloc: Global, text: &str) -> Result<usize, Error> {
     if text.len() > MOST_BYTES {
@@ -68,6 +72,21 @@ fn decls_in(alloc: Global, text: &str) -> Option<usize> {
 }
 
 impl Task {
+    /// The work that the words ask for: its name, the shape of the files, their length, how many there are, and how
+    /// often it is done. None where the words ask for no work.
+    pub fn from_words(words: &[String]) -> Option<Task> {
+        let [work, shape, bytes, files, times] = words else {
+            return None;
+        };
+        Some(Task {
+            work: Work::named(work.as_str())?,
+            shape: Shape::named(shape.as_str())?,
+            bytes: number(bytes)?,
+            files: number(files)?,
+            times: number(times)?,
+        })
+    }
+
     // How much is found in one text.
     fn found_in(self, alloc: Global, text: &str) -> Result<usize, Error> {
         match self.work {
