@@ -25,9 +25,9 @@ use Rattle.expr_check.specs.Types.{type_named}
 use Rattle.expr_check.specs.Phrases.{expr_phrase}
 use Rattle.type_infer.specs.Readings.{Query, at_file, written_type, value_type, global_type, stored_type, params_query, params_in, result_query, StoredName, stored_in, words_query, measured_query, all_measured, struct_query, definition_query, query_by_kind, item_query}
 use Rattle.type_infer.specs.Demand.{or_circular, AskedIsNeeded, AllKnownEnds}
-use Rattle.type_infer.proofs.Steadiness.{Better, AsksLess, asks-nothing, asks-then}
-use Rattle.type_infer.proofs.Steadying.{type-steady}
-use Rattle.type_infer.proofs.SteadyTrees.{expr-steady}
+use Rattle.type_infer.proofs.Monotonicity.{Approximation, AsksLess, asks-nothing, asks-then}
+use Rattle.type_infer.proofs.MonotoneExpressions.{type-monotone}
+use Rattle.type_infer.proofs.MonotoneTrees.{expr-monotone}
 
 -- With more answers a reading asks no less.
 
@@ -36,11 +36,11 @@ KeepsAsking q = AsksLess q q
 
 written-asks : (path : List ℕ) (t : TypeName) → KeepsAsking (written_type path t)
 unfolding written_type
-written-asks path t = asks-then (type_named path t.name) (type_named path t.name) _ _ (type-steady path t.name).asks (λ c d. asks-nothing _ _)
+written-asks path t = asks-then (type_named path t.name) (type_named path t.name) _ _ (type-monotone path t.name).asks (λ c d. asks-nothing _ _)
 
 value-asks : (path : List ℕ) (value : Expr) → KeepsAsking (value_type path value)
 unfolding value_type
-value-asks path value = asks-then ((expr_phrase value).check (at_file path)) ((expr_phrase value).check (at_file path)) _ _ (expr-steady (at_file path) value).asks (λ c d. asks-nothing _ _)
+value-asks path value = asks-then ((expr_phrase value).check (at_file path)) ((expr_phrase value).check (at_file path)) _ _ (expr-monotone (at_file path) value).asks (λ c d. asks-nothing _ _)
 
 global-asks : (path : List ℕ) (annotation : Option (Leaf × TypeName)) (value : Expr) → KeepsAsking (global_type path annotation value)
 global-asks path (Some annotation) value = written-asks path annotation.1
@@ -158,8 +158,8 @@ joined-same later known agree k =
       | Some a ↦ λ e. inl ((elim (later k) as (λ p. later k ≡ p → a ≡ known_or means.Circular (or_else p (Some a))) [ None ↦ λ f. refl | Some c ↦ λ f. agree.at k a c e f ]) refl)
     ]) refl
 
-abbrev joined-better : (later known : Key → Option Meaning) → Agree known later → Better
-joined-better later known agree = record { few = or_circular known; more = or_circular (joined later known); same = joined-same later known agree }
+abbrev joined-above : (later known : Key → Option Meaning) → Agree known later → Approximation
+joined-above later known agree = record { few = or_circular known; more = or_circular (joined later known); same = joined-same later known agree }
 
 -- A query that asks no less with more answers needs what it asks.
 needed : {X : Type 0} (known : Key → Option Meaning) (q : Query X) (u : Key) → KeepsAsking q → Among (dependencies (or_circular known) q) u → known u ≡ None → Needs known q u
@@ -169,7 +169,7 @@ needed {X} known q u keeps m none = record {
         | Err k ↦ λ e. refl
         | Ok x ↦ λ e.
             let ends : run (joined later known) q ≡ Ok x = run-grows later (joined later known) q x (joined-below later known) e in
-            let asked : Among (dependencies (or_circular (joined later known)) q) u = keeps.at (joined-better later known agree) u m in
+            let asked : Among (dependencies (or_circular (joined later known)) q) u = keeps.at (joined-above later known agree) u m in
             let missing : joined later known u ≡ None = rw unknown none in
             absurd (asked-known (joined later known) q x ends u asked missing)
       ]) refl;

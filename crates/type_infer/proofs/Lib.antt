@@ -7,7 +7,7 @@ pub mod Trees
 pub mod PlainMeanings
 pub mod Written
 pub mod Indexed
-pub mod Steadiness
-pub mod Steadying
-pub mod SteadyTrees
+pub mod Monotonicity
+pub mod MonotoneExpressions
+pub mod MonotoneTrees
 pub mod Demanded

@@ -1,4 +1,4 @@
--- What is put together of steady checks is steady.
+-- With more answers a monotone check keeps its value and asks no less. What is put together of monotone checks is monotone.
 use Rattle.std.proofs.Common.{◌≡◌, Bool, true, false, List, [], ◌∷◌, ◌++◌, Option, Some, None, refl, ap, sym, ◌∙◌, subst, ◌⊎◌, inl, inr}
 use Rattle.std.specs.Prelude.{if◌then◌else◌}
 use Rattle.std.specs.List.{AllByRecursion}
@@ -14,21 +14,21 @@ use Rattle.type_infer.specs.Readings.{Query}
 use Rattle.type_infer.proofs.ListFacts.{among-append, among-left, among-right}
 
 -- Two ways to answer: where they differ, the first has no answer and says Circular.
-pub record Better : Type 0 where
+pub record Approximation : Type 0 where
   pub few : Key → Meaning
   pub more : Key → Meaning
   pub same : (k : Key) → (few k ≡ more k) ⊎ (few k ≡ means.Circular)
 
 -- what the first query asks with few answers, the second asks with more
 pub record AsksLess {X Y : Type 0} (q : Query X) (r : Query Y) : Type 0 where
-  pub at : (b : Better) (k : Key) → Among (dependencies b.few q) k → Among (dependencies b.more r) k
+  pub at : (b : Approximation) (k : Key) → Among (dependencies b.few q) k → Among (dependencies b.more r) k
 
 abbrev pub outcome : {X : Type 0} → (Key → Meaning) → CheckOf X → Option X
 outcome answers c = (value_with answers c).value
 
 -- With more answers the check keeps its value, and asks no less.
-pub record Steady {X : Type 0} (c : CheckOf X) : Type 0 where
-  pub value : (b : Better) (x : X) → outcome b.few c ≡ Some x → outcome b.more c ≡ Some x
+pub record Monotone {X : Type 0} (c : CheckOf X) : Type 0 where
+  pub value : (b : Approximation) (x : X) → outcome b.few c ≡ Some x → outcome b.more c ≡ Some x
   pub asks : AsksLess c c
 
 -- Queries.
@@ -69,22 +69,22 @@ found-observing answers (Fetch k g) f = found-observing answers (g (answers k)) 
 
 -- what follows an outcome gives nothing where there is none, and then asks no more than with any
 pub record Follows {X Y : Type 0} (f : Option X → CheckOf Y) : Type 0 where
-  pub some : (x : X) → Steady (f (Some x))
+  pub some : (x : X) → Monotone (f (Some x))
   pub none : (answers : Key → Meaning) → outcome answers (f None) ≡ None
   pub less : (o : Option X) → AsksLess (f None) (f o)
 
-asks-follow : {X Y : Type 0} (f : Option X → CheckOf Y) → Follows f → (b : Better) (k : Key) (o p : Option X) → ((x : X) → o ≡ Some x → p ≡ Some x) →
+asks-follow : {X Y : Type 0} (f : Option X → CheckOf Y) → Follows f → (b : Approximation) (k : Key) (o p : Option X) → ((x : X) → o ≡ Some x → p ≡ Some x) →
     Among (dependencies b.few (f o)) k → Among (dependencies b.more (f p)) k
 asks-follow f s b k None p same m = (s.less p).at b k m
 asks-follow f s b k (Some x) p same m = subst (λ o. Among (dependencies b.more (f o)) k) (sym (same x refl)) ((s.some x).asks.at b k m)
 
-found-follow : {X Y : Type 0} (f : Option X → CheckOf Y) → Follows f → (b : Better) (y : Y) (o p : Option X) → ((x : X) → o ≡ Some x → p ≡ Some x) →
+found-follow : {X Y : Type 0} (f : Option X → CheckOf Y) → Follows f → (b : Approximation) (y : Y) (o p : Option X) → ((x : X) → o ≡ Some x → p ≡ Some x) →
     outcome b.few (f o) ≡ Some y → outcome b.more (f p) ≡ Some y
 found-follow f s b y None p same h = absurd (let n : None ≡ Some y = sym (s.none b.few) ∙ h in cc)
 found-follow f s b y (Some x) p same h = subst (λ o. outcome b.more (f o) ≡ Some y) (sym (same x refl)) ((s.some x).value b y h)
 
-pub steady-observing : {X Y : Type 0} (c : CheckOf X) (f : Option X → CheckOf Y) → Steady c → Follows f → Steady (observing c f)
-steady-observing c f s t = record {
+pub monotone-observing : {X Y : Type 0} (c : CheckOf X) (f : Option X → CheckOf Y) → Monotone c → Follows f → Monotone (observing c f)
+monotone-observing c f s t = record {
   value = λ b y h. found-observing b.more c f ∙ found-follow f t b y (outcome b.few c) (outcome b.more c) (s.value b) (sym (found-observing b.few c f) ∙ h);
   asks = record {
     at = λ b k m.
@@ -106,11 +106,11 @@ asks-observing c f h s t = record {
       ]);
 }
 
-pub steady-done : {X : Type 0} (c : Checked Line X) → Steady (Done c)
-steady-done c = record { value = λ b x h. h; asks = asks-nothing c (Done c) }
+pub monotone-done : {X : Type 0} (c : Checked Line X) → Monotone (Done c)
+monotone-done c = record { value = λ b x h. h; asks = asks-nothing c (Done c) }
 
-pub steady-behind : {X : Type 0} (before : List Line) (c : CheckOf X) → Steady c → Steady (behind before c)
-steady-behind before c s = record {
+pub monotone-behind : {X : Type 0} (before : List Line) (c : CheckOf X) → Monotone c → Monotone (behind before c)
+monotone-behind before c s = record {
   value = λ b x h. found-behind b.more before c ∙ s.value b x (sym (found-behind b.few before c) ∙ h);
   asks = record { at = λ b k m. subst (λ l. Among l k) (sym (asked-behind b.more before c)) (s.asks.at b k (subst (λ l. Among l k) (asked-behind b.few before c) m)) };
 }
@@ -121,10 +121,10 @@ bind-observes : {X Y : Type 0} (c : CheckOf X) (f : X → CheckOf Y) → observi
 bind-observes (Done c) f = refl
 bind-observes (Fetch k g) f = λ i. Fetch k (λ a. bind-observes (g a) f i)
 
-pub steady-bind : {X Y : Type 0} (c : CheckOf X) (f : X → CheckOf Y) → Steady c → ((x : X) → Steady (f x)) → Steady (go_on c f)
-steady-bind {X} {Y} c f s t =
+pub monotone-bind : {X Y : Type 0} (c : CheckOf X) (f : X → CheckOf Y) → Monotone c → ((x : X) → Monotone (f x)) → Monotone (go_on c f)
+monotone-bind {X} {Y} c f s t =
     let follows : Follows {X = X} {Y = Y} (λ o. on_value o f) = record { some = t; none = λ answers. refl; less = λ o. asks-nothing _ (on_value o f) } in
-    subst Steady (bind-observes c f) (steady-observing c (λ o. on_value o f) s follows)
+    subst Monotone (bind-observes c f) (monotone-observing c (λ o. on_value o f) s follows)
 
 -- Both checks.
 
@@ -151,25 +151,25 @@ paired-some : {X Y : Type 0} (x : X) (o p : Option Y) (r : X × Y) → ((y : Y) 
 paired-some x None p r same h = absurd cc
 paired-some x (Some y) p r same h = ap (paired (Some x)) (same y refl) ∙ h
 
-steady-second : {X Y : Type 0} (x : X) (d : CheckOf Y) → Steady d → Steady (and_then (Some x) d)
-steady-second x d s = record {
+monotone-second : {X Y : Type 0} (x : X) (d : CheckOf Y) → Monotone d → Monotone (and_then (Some x) d)
+monotone-second x d s = record {
   value = λ b r h. found-second b.more (Some x) d ∙ paired-some x (outcome b.few d) (outcome b.more d) r (s.value b) (sym (found-second b.few (Some x) d) ∙ h);
   asks = asks-second (Some x) (Some x) d s.asks;
 }
 
-pub steady-both : {X Y : Type 0} (c : CheckOf X) (d : CheckOf Y) → Steady c → Steady d → Steady (both c d)
-steady-both {X} {Y} c d s t =
+pub monotone-both : {X Y : Type 0} (c : CheckOf X) (d : CheckOf Y) → Monotone c → Monotone d → Monotone (both c d)
+monotone-both {X} {Y} c d s t =
     let follows : Follows {X = X} {Y = X × Y} (λ o. and_then o d) = record {
-      some = λ x. steady-second x d t;
+      some = λ x. monotone-second x d t;
       none = λ answers. found-second answers None d ∙ paired-none (outcome answers d);
       less = λ o. asks-second None o d t.asks;
     } in
-    subst Steady (both-observes c d) (steady-observing c (λ o. and_then o d) s follows)
+    subst Monotone (both-observes c d) (monotone-observing c (λ o. and_then o d) s follows)
 
 -- All checks of a list.
 
-abbrev pub AreSteady : {X : Type 0} → List (CheckOf X) → Type 0
-AreSteady cs = AllByRecursion (λ c. Steady c) cs
+abbrev pub AreMonotone : {X : Type 0} → List (CheckOf X) → Type 0
+AreMonotone cs = AllByRecursion (λ c. Monotone c) cs
 
 appended-none : {X : Type 0} (before : Option (List X)) → appended before None ≡ None
 appended-none None = refl
@@ -184,31 +184,31 @@ found-none answers [] = refl
 found-none answers (c ∷ cs) =
     found-observing answers c (λ o. all_behind (appended None o) cs) ∙ ap (λ o. outcome answers (all_behind o cs)) (none-appended (outcome answers c)) ∙ found-none answers cs
 
-asks-rest : {X : Type 0} (before other : Option (List X)) (cs : List (CheckOf X)) → AreSteady cs → AsksLess (all_behind before cs) (all_behind other cs)
+asks-rest : {X : Type 0} (before other : Option (List X)) (cs : List (CheckOf X)) → AreMonotone cs → AsksLess (all_behind before cs) (all_behind other cs)
 asks-rest before other [] s = asks-nothing _ (all_behind other [])
 asks-rest before other (c ∷ cs) s =
     asks-observing c (λ o. all_behind (appended before o) cs) (λ o. all_behind (appended other o) cs) s.0.asks (λ o p. asks-rest (appended before o) (appended other p) cs s.1)
 
-steady-rest : {X : Type 0} (before : Option (List X)) (cs : List (CheckOf X)) → AreSteady cs → Steady (all_behind before cs)
-steady-rest before [] s = steady-done _
-steady-rest before (c ∷ cs) s = steady-observing c (λ o. all_behind (appended before o) cs) s.0 (record {
-  some = λ x. steady-rest (appended before (Some x)) cs s.1;
+monotone-rest : {X : Type 0} (before : Option (List X)) (cs : List (CheckOf X)) → AreMonotone cs → Monotone (all_behind before cs)
+monotone-rest before [] s = monotone-done _
+monotone-rest before (c ∷ cs) s = monotone-observing c (λ o. all_behind (appended before o) cs) s.0 (record {
+  some = λ x. monotone-rest (appended before (Some x)) cs s.1;
   none = λ answers. ap (λ o. outcome answers (all_behind o cs)) (appended-none before) ∙ found-none answers cs;
   less = λ o. asks-rest (appended before None) (appended before o) cs s.1;
 })
 
-pub steady-all : {X : Type 0} (cs : List (CheckOf X)) → AreSteady cs → Steady (all cs)
-steady-all cs s = steady-rest (Some []) cs s
+pub monotone-all : {X : Type 0} (cs : List (CheckOf X)) → AreMonotone cs → Monotone (all cs)
+monotone-all cs s = monotone-rest (Some []) cs s
 
-pub steady-choice : {X : Type 0} (t : Bool) (c d : CheckOf X) → Steady c → Steady d → Steady (if t then c else d)
-steady-choice true c d s r = s
-steady-choice false c d s r = r
+pub monotone-choice : {X : Type 0} (t : Bool) (c d : CheckOf X) → Monotone c → Monotone d → Monotone (if t then c else d)
+monotone-choice true c d s r = s
+monotone-choice false c d s r = r
 
--- a chain whose every step is steady
-pub steady-grouped : {T X Y : Type 0} (step : T → X × Y → CheckOf X) (left : CheckOf X) (more : List (T × CheckOf Y)) →
-    ((t : T) (p : X × Y) → Steady (step t p)) → Steady left → AllByRecursion (λ m. Steady m.1) more → Steady (grouped step left more)
-steady-grouped step left [] h s r = s
-steady-grouped step left ((t, right) ∷ more) h s r = steady-grouped step (go_on (both left right) (step t)) more h (steady-bind (both left right) (step t) (steady-both left right s r.0) (h t)) r.1
+-- a chain whose every step is monotone
+pub monotone-grouped : {T X Y : Type 0} (step : T → X × Y → CheckOf X) (left : CheckOf X) (more : List (T × CheckOf Y)) →
+    ((t : T) (p : X × Y) → Monotone (step t p)) → Monotone left → AllByRecursion (λ m. Monotone m.1) more → Monotone (grouped step left more)
+monotone-grouped step left [] h s r = s
+monotone-grouped step left ((t, right) ∷ more) h s r = monotone-grouped step (go_on (both left right) (step t)) more h (monotone-bind (both left right) (step t) (monotone-both left right s r.0) (h t)) r.1
 
 -- What is asked of the module.
 
@@ -226,8 +226,8 @@ silent-asks answers (Done c) k h m = m
 silent-asks answers (Fetch u g) k h m = h
 
 -- A key is asked, and with the answer Circular nothing goes on.
-pub steady-fetch : {X : Type 0} (k : Key) (g : Meaning → CheckOf X) → ((m : Meaning) → Steady (g m)) → IsSilent (g means.Circular) → Steady (Fetch k g)
-steady-fetch k g s silent = record {
+pub monotone-fetch : {X : Type 0} (k : Key) (g : Meaning → CheckOf X) → ((m : Meaning) → Monotone (g m)) → IsSilent (g means.Circular) → Monotone (Fetch k g)
+monotone-fetch k g s silent = record {
   value = λ b x h. elim (b.same k) [
     | inl e ↦ subst (λ m. outcome b.more (g m) ≡ Some x) e ((s (b.few k)).value b x h)
     | inr e ↦ absurd (let n : None ≡ Some x = sym (silent-none b.few (g means.Circular) silent) ∙ subst (λ m. outcome b.few (g m) ≡ Some x) e h in cc)
@@ -243,25 +243,25 @@ steady-fetch k g s silent = record {
   };
 }
 
-steady-provided : {X : Type 0} (k : Key) (m : Meaning) (others : CheckOf (Option Found)) (f : Option Found → CheckOf X) →
-    Steady (go_on others f) → ((m : Meaning) → Steady (f (Some (k, m)))) → Steady (go_on (provided k m others) f)
-steady-provided k means.NoProvider others f s t = s
-steady-provided k means.Ambiguous others f s t = steady-behind [] _ (t means.Ambiguous)
-steady-provided k means.Broken others f s t = steady-behind [] _ (t means.Broken)
-steady-provided k means.Circular others f s t = steady-behind [] _ (t means.Circular)
-steady-provided k (means.Value mutable of) others f s t = steady-behind [] _ (t (means.Value mutable of))
-steady-provided k (means.Function ps r) others f s t = steady-behind [] _ (t (means.Function ps r))
-steady-provided k (means.Struct c) others f s t = steady-behind [] _ (t (means.Struct c))
-steady-provided k (means.Alias of) others f s t = steady-behind [] _ (t (means.Alias of))
-steady-provided k (means.Fields fs w) others f s t = steady-behind [] _ (t (means.Fields fs w))
+monotone-provided : {X : Type 0} (k : Key) (m : Meaning) (others : CheckOf (Option Found)) (f : Option Found → CheckOf X) →
+    Monotone (go_on others f) → ((m : Meaning) → Monotone (f (Some (k, m)))) → Monotone (go_on (provided k m others) f)
+monotone-provided k means.NoProvider others f s t = s
+monotone-provided k means.Ambiguous others f s t = monotone-behind [] _ (t means.Ambiguous)
+monotone-provided k means.Broken others f s t = monotone-behind [] _ (t means.Broken)
+monotone-provided k means.Circular others f s t = monotone-behind [] _ (t means.Circular)
+monotone-provided k (means.Value mutable of) others f s t = monotone-behind [] _ (t (means.Value mutable of))
+monotone-provided k (means.Function ps r) others f s t = monotone-behind [] _ (t (means.Function ps r))
+monotone-provided k (means.Struct c) others f s t = monotone-behind [] _ (t (means.Struct c))
+monotone-provided k (means.Alias of) others f s t = monotone-behind [] _ (t (means.Alias of))
+monotone-provided k (means.Fields fs w) others f s t = monotone-behind [] _ (t (means.Fields fs w))
 
 silent-behind : {X : Type 0} (before : List Line) (c : CheckOf X) → IsSilent c → IsSilent (behind before c)
 silent-behind before (Done c) h = h
 silent-behind before (Fetch k g) h = absurd h
 
 -- A look-up, and then a check with which nothing goes on where a key is found to be Circular.
-pub steady-look : {X : Type 0} (ks : List Key) (f : Option Found → CheckOf X) → ((o : Option Found) → Steady (f o)) → ((k : Key) → IsSilent (f (Some (k, means.Circular)))) → Steady (go_on (look_up ks) f)
+pub monotone-look : {X : Type 0} (ks : List Key) (f : Option Found → CheckOf X) → ((o : Option Found) → Monotone (f o)) → ((k : Key) → IsSilent (f (Some (k, means.Circular)))) → Monotone (go_on (look_up ks) f)
 unfolding look_up
-steady-look [] f s silent = steady-behind [] _ (s None)
-steady-look (k ∷ ks) f s silent =
-    steady-fetch k (λ m. go_on (provided k m (look_up ks)) f) (λ m. steady-provided k m (look_up ks) f (steady-look ks f s silent) (λ m. s (Some (k, m)))) (silent-behind [] _ (silent k))
+monotone-look [] f s silent = monotone-behind [] _ (s None)
+monotone-look (k ∷ ks) f s silent =
+    monotone-fetch k (λ m. go_on (provided k m (look_up ks)) f) (λ m. monotone-provided k m (look_up ks) f (monotone-look ks f s silent) (λ m. s (Some (k, m)))) (silent-behind [] _ (silent k))
