@@ -2,7 +2,12 @@ pub mod ListFacts
 pub mod Ending
 pub mod Combining
 pub mod Sounding
+pub mod TreeInduction
 pub mod Trees
 pub mod PlainMeanings
 pub mod Written
 pub mod Indexed
+pub mod Monotonicity
+pub mod MonotoneExpressions
+pub mod MonotoneTrees
+pub mod Demanded

@@ -4,3 +4,4 @@ pub mod Kinds
 pub mod Plain
 pub mod Sound
 pub mod Laws
+pub mod Demand

@@ -6,6 +6,7 @@
 //! read, `specs/Meanings.antt` what the keys of a module mean, `specs/Laws.antt` what holds of them.
 #![tactic(auto)]
 
+ghost use Rattle.type_infer.specs.Demand.{AllKnownEnds, AskedIsNeeded};
 ghost use Rattle.type_infer.specs.Laws.{DeclarationsMean, KeysListRules, MeaningsArePlain, ReferencesAreDeclarations, SolutionIsMeaning, WrittenNamesArePlain};
 ghost use Rattle.type_infer.specs.Sound.{ExpressionsAskKeys, ReadingsAskKeys};
 
@@ -29,4 +30,11 @@ pub fn reading_laws()
     ensures readings { ReadingsAskKeys }
     ensures written { WrittenNamesArePlain }
     ensures plain { MeaningsArePlain }
+{}
+
+/// What reading a declaration asks, where keys without an answer mean `Circular`, it needs; where all of it is known, the
+/// reading ends with that value.
+pub fn demand_laws()
+    ensures needed { AskedIsNeeded }
+    ensures ends { AllKnownEnds }
 {}
