@@ -1,0 +1,4 @@
+mod WakingLemmas
+mod FinishLemmas
+mod OpeningLemmas
+mod RunLemmas
