@@ -1,4 +1,4 @@
-mod WakingLemmas
-mod FinishLemmas
-mod OpeningLemmas
-mod RunLemmas
+pub mod WakingLemmas
+pub mod FinishLemmas
+pub mod OpeningLemmas
+pub mod RunLemmas
