@@ -1,12 +1,11 @@
 -- A trace follows a build.
-use Rattle.std.proofs.Common.{◌≡◌, ◌≢◌, ◌⊎◌, ◌↔◌, ℕ, Bool, true, false, not, ◌&&◌, ◌||◌, List, Option, Some, None, IsSome, IsNone, is_some, refl, ap, sym, ◌∙◌, subst, inl, inr}
-use Rattle.std.specs.List.{list_any}
+use Rattle.std.proofs.Common.{◌≡◌, ◌≢◌, ◌↔◌, ℕ, Bool, true, false, not, ◌&&◌, ◌||◌, List, Option, Some, None, IsSome, IsNone, is_some, refl, ap, sym, ◌∙◌, subst, inl, inr}
 use Rattle.std.specs.BTreeMap.{is_at}
 use Rattle.dep_key.specs.declared.key.Key.{Key}
 use Rattle.dep_key.specs.declared.graph.Node.{Node}
 use Rattle.dep_graph.specs.Moves.{is_one, node_reading}
 use Rattle.dep_graph.specs.Arcs.{path_order, uses_key}
-use Rattle.waves.specs.Builds.{print_in, HaveSamePrints, HasMoved, IsRemoved}
+use Rattle.waves.specs.Builds.{print_in, HaveSamePrints, HasMoved}
 use Rattle.waves.specs.Machine as machine
 use Rattle.waves.specs.Machine.{State}
 use Rattle.waves.proofs.Stages.{woken-done, done-woken, or-true, and-true}
@@ -17,7 +16,7 @@ use Rattle.wave_core.proofs.WakingLemmas.{path-itself, other-path}
 use Rattle.wave_core.proofs.FinishLemmas.{used, uses, or-true-right}
 use Rattle.wave_core.proofs.OpeningLemmas.{any-file, file-any}
 use Rattle.wave_core.proofs.RunLemmas.{decided}
-use Rattle.dep_trace.specs.Traces.{HasMovedBeside, Traces, TracesBegin, TracesTake, TracesFinish, TracesEnd, moved_beside}
+use Rattle.dep_trace.specs.Traces.{HasMovedBeside, TracesBegin, TracesTake, TracesFinish, TracesEnd, moved_beside}
 
 some-print : (o p : Option (List Node)) (k : Key) → IsNone p → has_print o k ≡ true → print_in node_reading o k ≢ print_in node_reading p k
 some-print o (Some n) k none some = λ e. cc
@@ -41,15 +40,15 @@ begins before now first s removed origins opens gone tells = record {
   at = λ f k.
       let test : List ℕ → Bool = λ g. not (is_at (path_order g) f) && has_print (before g) k in (
         λ h.
-        let found : (g : List ℕ) × (is_among removed g ≡ true) × (test g ≡ true) = any-file test removed (sym (tells f k) ∙ h) in
-        let both : (not (is_at (path_order found.0) f) ≡ true) × (has_print (before found.0) k ≡ true) = and-true (not (is_at (path_order found.0) f)) (has_print (before found.0) k) found.2 in
-        let away : IsSome (before found.0) × IsNone (now found.0) = (gone.at found.0).0 found.1 in
-        record {
-          origin = found.0;
-          other = not-at found.0 f both.0;
-          changed = inl away;
-          moved = some-print (before found.0) (now found.0) k away.1 both.1;
-        },
+            let found : (g : List ℕ) × (is_among removed g ≡ true) × (test g ≡ true) = any-file test removed (sym (tells f k) ∙ h) in
+            let both : (not (is_at (path_order found.0) f) ≡ true) × (has_print (before found.0) k ≡ true) = and-true (not (is_at (path_order found.0) f)) (has_print (before found.0) k) found.2 in
+            let away : IsSome (before found.0) × IsNone (now found.0) = (gone.at found.0).0 found.1 in
+            record {
+              origin = found.0;
+              other = not-at found.0 f both.0;
+              changed = inl away;
+              moved = some-print (before found.0) (now found.0) k away.1 both.1;
+            },
         λ b. tells f k ∙ elim b.changed [
           | inl away ↦ file-any test removed b.origin ((gone.at b.origin).1 away) (both-true (not (is_at (path_order b.origin) f)) (has_print (before b.origin) k) (at-not b.origin f b.other) (print-some (before b.origin) (now b.origin) k away.1 b.moved))
           | inr done ↦ absurd (let bad : machine.Idle ≡ machine.Done = woken-done _ machine.Idle (sym (opens.stage b.origin) ∙ done) in cc)
@@ -105,18 +104,18 @@ ends before now first plan events t origins run whole traced f nodes is =
     let done = complete-done c plan t (run-reached c plan decided events t run) whole in (
       λ key found. (
         let b : HasMovedBeside c t f key = (traced.at f key).0 found.moved in
-        record {
-          origin = b.origin;
-          other = b.other;
-          changed = elim b.changed [ inl away ↦ inl away | inr d ↦ inr ((done b.origin).0 d) ];
-          moved = b.moved;
-          used = used (before f) key (ap (λ o. uses_key o key) is ∙ found.used);
-        },
+            record {
+              origin = b.origin;
+              other = b.other;
+              changed = elim b.changed [ inl away ↦ inl away | inr d ↦ inr ((done b.origin).0 d) ];
+              moved = b.moved;
+              used = used (before f) key (ap (λ o. uses_key o key) is ∙ found.used);
+            },
         λ k cause. found.least k (ap (λ o. uses_key o k) (sym is) ∙ uses (before f) k cause.used)
             ((traced.at f k).1 (record { origin = cause.origin; other = cause.other; changed = elim cause.changed [ inl away ↦ inl away | inr due ↦ inr ((done cause.origin).1 due) ]; moved = cause.moved })),
       ),
       λ none k cause.
-      let here : uses_key (Some nodes) k ≡ true = ap (λ o. uses_key o k) (sym is) ∙ uses (before f) k cause.used in
-      let beside : moved_beside origins f k ≡ true = (traced.at f k).1 (record { origin = cause.origin; other = cause.other; changed = elim cause.changed [ inl away ↦ inl away | inr due ↦ inr ((done cause.origin).1 due) ]; moved = cause.moved }) in
-      (let bad : true ≡ false = sym (both-true (uses_key (Some nodes) k) (moved_beside origins f k) here beside) ∙ none k in cc),
+          let here : uses_key (Some nodes) k ≡ true = ap (λ o. uses_key o k) (sym is) ∙ uses (before f) k cause.used in
+          let beside : moved_beside origins f k ≡ true = (traced.at f k).1 (record { origin = cause.origin; other = cause.other; changed = elim cause.changed [ inl away ↦ inl away | inr due ↦ inr ((done cause.origin).1 due) ]; moved = cause.moved }) in
+          (let bad : true ≡ false = sym (both-true (uses_key (Some nodes) k) (moved_beside origins f k) here beside) ∙ none k in cc),
     )

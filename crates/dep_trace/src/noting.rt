@@ -49,11 +49,7 @@ fn joined(known: Option<Origin>, file: &Name) -> Result<Origin, NoMemory>
 }
 
 /// A key has moved in a file.
-fn note_key(
-    origins: &mut BTreeMap<Key, Origin>,
-    key: &Key,
-    file: &Name,
-) -> Result<(), NoMemory>
+fn note_key(origins: &mut BTreeMap<Key, Origin>, key: &Key, file: &Name) -> Result<(), NoMemory>
     ensures { OnOk result (HaveMoved origins.old.entries origins.new.entries file.now (λ k. is_eq (key_order k key.now))) }
 {
     let origin = joined(origins.remove(key), file)?;

@@ -1,5 +1,4 @@
-use Rattle.std.proofs.Common.{◌+◌, ◌∙◌, ap, ℕ, List, sym, take, Some, is_eq}
-use Rattle.dep_key.specs.declared.key.Key.{Key}
+use Rattle.std.proofs.Common.{◌+◌, ℕ, List, sym, take, is_eq}
 use Rattle.dep_key.specs.declared.graph.Node.{Node}
 use Rattle.dep_key.specs.KeyOrder.{key_order}
 use Rattle.dep_trace.specs.Traces.{is_named}
