@@ -1,11 +1,13 @@
 //! A change goes through the core, in a random order.
 
-use crate::modules::{Change, File, KEYS, Module, PATHS, file_at, graph_of, key_at, nodes_of, path_at};
+use crate::modules::{
+    Change, File, KEYS, Module, PATHS, file_at, graph_of, key_at, nodes_of, path_at,
+};
 use crate::numbers::Numbers;
 use crate::rounds::Outcome;
 use dep_trace::Trace;
-use wave_core::{Core, Graph, Key, Name, NoMemory};
 use std::alloc::Global;
+use wave_core::{Core, Graph, Key, Name, NoMemory};
 
 /// The most events of a build that are tried.
 const MOST_EVENTS: usize = 400;
@@ -214,5 +216,12 @@ pub fn built(
         }
     }
     let ends = ends_right(alloc, &core, change, &due)?;
-    Ok((Outcome { due, changed, traced }, ends))
+    Ok((
+        Outcome {
+            due,
+            changed,
+            traced,
+        },
+        ends,
+    ))
 }

@@ -74,7 +74,10 @@ fn main(rt: HostRuntime) -> Result<(), Error> {
     }
     println!(rt; "changes tried: {CHANGES}")?;
     println!(rt; "built as by rounds: {}", counts.alike)?;
-    println!(rt; "files due: {}, of which woken: {}", counts.due, counts.woken)?;
+    println!(rt;
+        "files due: {}, of which woken: {}",
+        counts.due, counts.woken
+    )?;
     println!(rt; "keys changed: {}", counts.changed)?;
     println!(rt; "files traced from a key: {}", counts.traced)?;
     Ok(())

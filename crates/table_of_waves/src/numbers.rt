@@ -3,6 +3,7 @@
 use crate::modules::{Cell, Change, File, Module, Print, file_at};
 
 const FACTOR: u64 = 6364136223846793005;
+
 const STEP: u64 = 1442695040888963407;
 
 /// A linear congruential generator.
@@ -50,13 +51,22 @@ fn random_cell(numbers: &mut Numbers) -> Option<Cell> {
     if numbers.flips() {
         return None;
     }
-    let print = if numbers.flips() { Print::Empty } else { Print::Filled };
+    let print = if numbers.flips() {
+        Print::Empty
+    } else {
+        Print::Filled
+    };
     let uses = random_uses(numbers);
     Some(Cell { print, uses })
 }
 
 fn random_file(numbers: &mut Numbers) -> File {
-    [random_cell(numbers), random_cell(numbers), random_cell(numbers), random_cell(numbers)]
+    [
+        random_cell(numbers),
+        random_cell(numbers),
+        random_cell(numbers),
+        random_cell(numbers),
+    ]
 }
 
 /// A random file in three of four cases.

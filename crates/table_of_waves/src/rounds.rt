@@ -50,8 +50,8 @@ fn uses(change: &Change, file: usize, key: usize) -> bool {
 /// Whether the files that a key may come from have it moved: those that are removed or due.
 fn moves(change: &Change, due: &[bool; 8], but: Option<usize>, key: usize) -> bool {
     for (file, is_due) in due.iter().enumerate() {
-        let removed =
-            file_at(&change.before, file).is_some() && file_at(&change.now, file).is_none();
+        let removed = file_at(&change.before, file).is_some()
+            && file_at(&change.now, file).is_none();
         if (removed || *is_due) && but != Some(file) && has_moved(change, file, key) {
             return true;
         }
@@ -60,12 +60,7 @@ fn moves(change: &Change, due: &[bool; 8], but: Option<usize>, key: usize) -> bo
 }
 
 /// The least key that a file used and that moved in a removed or due file, other than the one left out.
-fn least_moved(
-    change: &Change,
-    due: &[bool; 8],
-    file: usize,
-    but: Option<usize>,
-) -> Option<usize> {
+fn least_moved(change: &Change, due: &[bool; 8], file: usize, but: Option<usize>) -> Option<usize> {
     for key in 0..4usize {
         if uses(change, file, key) && moves(change, due, but, key) {
             return Some(key);
@@ -102,5 +97,9 @@ pub fn by_rounds(change: &Change) -> Outcome {
             *from = least_moved(change, &due, file, Some(file));
         }
     }
-    Outcome { due, changed, traced }
+    Outcome {
+        due,
+        changed,
+        traced,
+    }
 }
