@@ -1,0 +1,4 @@
+pub mod WakingLemmas
+pub mod FinishLemmas
+pub mod OpeningLemmas
+pub mod RunLemmas
