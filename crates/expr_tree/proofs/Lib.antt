@@ -1,0 +1,4 @@
+pub mod Chains
+pub mod CheckLaws
+pub mod Lists
+pub mod TreeLemmas
