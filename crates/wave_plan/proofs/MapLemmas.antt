@@ -40,6 +40,6 @@ same_path path = texts_ties path path ∙ (eq_by_cmp_equiv nat_list_cmp_total).r
 -- A graph has the new nodes at their path, and its old ones at the others.
 pub nodes_entered : (q path : List ℕ) (new old : Files) (nodes : List Node) → nodes_in new path ≡ Some nodes → ((f : List ℕ) → f ≢ path → nodes_in new f ≡ nodes_in old f) → nodes_in new q ≡ cond (pointwise nat_eq path q) (Some nodes) (nodes_in old q)
 nodes_entered q path new old nodes here others = (elim (pointwise nat_eq path q) as (λ b. pointwise nat_eq path q ≡ b → nodes_in new q ≡ cond b (Some nodes) (nodes_in old q)) [
-    | true ↦ λ e. ap (nodes_in new) (sym (same_symbol path q e)) ∙ here
-    | false ↦ λ e. others q (λ is. let same : pointwise nat_eq path q ≡ true = ap (pointwise nat_eq path) is ∙ same_path path in cc)
-  ]) refl
+  | true ↦ λ e. ap (nodes_in new) (sym (same_symbol path q e)) ∙ here
+  | false ↦ λ e. others q (λ is. let same : pointwise nat_eq path q ≡ true = ap (pointwise nat_eq path) is ∙ same_path path in cc)
+]) refl

@@ -1,12 +1,12 @@
 -- The nodes of each file of valid priors are in order.
-use Rattle.std.proofs.Common.{◌≡◌, Bool, true, false, cond, ℕ, List, [], ◌∷◌, map, refl, sym, ap, subst, ◌∙◌}
+use Rattle.std.proofs.Common.{◌≡◌, Bool, true, false, cond, ℕ, List, [], ◌∷◌, map, refl, sym, ap, subst}
 use Rattle.std.specs.List.{AllByRecursion}
 use Rattle.dep_key.specs.declared.graph.Node.{Node}
 use Rattle.dep_key.specs.declared.graph.FileGraph.{FileGraph}
 use Rattle.dep_key.specs.GraphOrder.{AreInOrder, AreAscending, keys_of}
 use Rattle.dep_key.specs.Digests.{digested, digested_node}
 use Rattle.swiftdeps.specs.Spelling.{IsSpelledFile}
-use Rattle.priors_store.specs.Priors.{ArePriors, recorded}
+use Rattle.priors_store.specs.Priors.{ArePriors}
 
 abbrev IsOrdered : FileGraph → Type 0
 IsOrdered file = AreInOrder file.nodes

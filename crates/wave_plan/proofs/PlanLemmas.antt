@@ -1,8 +1,7 @@
 -- What a plan says, by whether it has a graph.
-use Rattle.std.proofs.Common.{◌≡◌, Result, Ok, Err, subst, sym}
+use Rattle.std.proofs.Common.{Result, Ok, Err, subst, sym}
 use Rattle.std.specs.Prelude.{IfOk, IfErr, IsOkAnd}
 use Rattle.dep_key.specs.declared.no_memory.NoMemory.{NoMemory}
-use Rattle.dep_graph.specs.Arcs.{Files}
 use Rattle.wave_plan.specs.declared.plan.Seen.{Seen}
 use Rattle.wave_plan.specs.declared.plan.Asked.{Asked}
 use Rattle.wave_plan.specs.declared.plan.Plan.{Plan}

@@ -1,5 +1,5 @@
 -- What a plan says.
-use Rattle.std.specs.Prelude.{◌≡◌, ◌≢◌, ℕ, ◌==◌, ◌&&◌, not, Bool, true, false, List, [], map, filter, find, length, nat_eq, Option, Some, None, option_map, Err, IsOkAnd}
+use Rattle.std.specs.Prelude.{◌≡◌, ℕ, ◌==◌, ◌&&◌, not, Bool, false, List, [], map, filter, find, length, nat_eq, Option, option_map, Err, IsOkAnd}
 use Rattle.std.specs.List.{list_all}
 use Rattle.std.specs.Cmp.Lexicographic.{pointwise}
 use Rattle.dep_key.specs.declared.graph.Node.{Node}

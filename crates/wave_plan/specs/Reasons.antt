@@ -1,6 +1,5 @@
 -- Which files are in the first wave, and why.
 use Rattle.std.specs.Prelude.{ℕ, ◌+◌, ◌==◌, ◌&&◌, not, Bool, List, [], ◌∷◌, ◌++◌, map, find, nat_eq, Option, Some, None, if◌then◌else◌}
-use Rattle.std.specs.List.{zip}
 use Rattle.std.specs.Cmp.Lexicographic.{pointwise}
 use Rattle.drv_outside.specs.declared.types.Stamp.{Stamp}
 use Rattle.drv_outside.specs.declared.types.Entry.{Entry}

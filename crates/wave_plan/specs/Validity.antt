@@ -1,5 +1,5 @@
 -- When the priors of a build folder are valid, and why they aren't.
-use Rattle.std.specs.Prelude.{◌≡◌, ◌≢◌, ℕ, false, List, [], ◌∷◌, Option, Some, None, Result, Ok, Err}
+use Rattle.std.specs.Prelude.{◌≡◌, ◌≢◌, ℕ, false, List, [], ◌∷◌, Some, None, Result, Ok, Err}
 use Rattle.dep_key.specs.declared.graph.FileGraph.{FileGraph}
 use Rattle.build_record.specs.declared.record.BuildRecord.{BuildRecord}
 use Rattle.build_record.specs.Reading.{IsTextOfRecord, HasFault}

@@ -42,10 +42,7 @@ fn record_text(seen: &Seen) -> Result<&Text, PriorsWhy>
 }
 
 // The record that a text is.
-fn read_record(
-    alloc: Global,
-    text: &Text,
-) -> Result<Result<BuildRecord, PriorsWhy>, NoMemory>
+fn read_record(alloc: Global, text: &Text) -> Result<Result<BuildRecord, PriorsWhy>, NoMemory>
     ensures { (seen : Seen) (asked : Asked) → HasRecordText seen text.now → IfOk result (λ answer. MatchResult answer (HasRecord seen) (IsFirstFault seen asked)) }
 {
     match build_record::decode(alloc, text.as_slice()) {
@@ -85,11 +82,7 @@ fn copy_of_map(alloc: Global, map: &Option<Text>) -> Result<Option<Text>, NoMemo
 }
 
 // Why a record is that of another module, where it is.
-fn other_module(
-    alloc: Global,
-    found: &Text,
-    asked: &Text,
-) -> Result<Option<PriorsWhy>, NoMemory>
+fn other_module(alloc: Global, found: &Text, asked: &Text) -> Result<Option<PriorsWhy>, NoMemory>
     ensures { IfOk result (λ why. MatchOption why (found.now ≡ asked.now) (λ why. (found.now ≢ asked.now) × (why ≡ PriorsWhy.OtherModule found.now asked.now))) }
 {
     if found == asked {

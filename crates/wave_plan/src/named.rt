@@ -62,11 +62,7 @@ fn are_in(names: &[Name], set: &BTreeSet<Name>) -> bool
 }
 
 /// Whether two lists have the same names.
-pub fn have_same_names(
-    alloc: Global,
-    names: &[Name],
-    others: &[Name],
-) -> Result<bool, NoMemory>
+pub fn have_same_names(alloc: Global, names: &[Name], others: &[Name]) -> Result<bool, NoMemory>
     ensures { IfOk result (λ same. same ≡ have_same_names names.now others.now) }
 {
     let named = name_set(alloc, names)?;

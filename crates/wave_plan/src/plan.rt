@@ -59,7 +59,10 @@ pub enum PriorsWhy {
     /// The build record is refused.
     Record(RecordFault),
     /// The record is that of another module.
-    OtherModule { found: Text, asked: Text },
+    OtherModule {
+        found: Text,
+        asked: Text,
+    },
     /// The record was written for another output file map, or one of both has none.
     OtherMap {
         found: Option<Text>,

@@ -66,12 +66,7 @@ fn has_its_names(alloc: Global, seen: &Seen, asked: &Asked) -> Result<bool, NoMe
 }
 
 // The plan where the priors are valid.
-fn incremental(
-    alloc: Global,
-    seen: &Seen,
-    asked: &Asked,
-    found: Found,
-) -> Result<Plan, NoMemory>
+fn incremental(alloc: Global, seen: &Seen, asked: &Asked, found: Found) -> Result<Plan, NoMemory>
     requires named { length asked.now.names.files ≡ length asked.now.listed.items }
     requires ordered { AllByRecursion (λ (file : FileGraph). AreInOrder file.nodes) found.graph.items }
     ensures { IfOk result (λ plan. IsIncremental seen.now asked.now (told found) plan) }

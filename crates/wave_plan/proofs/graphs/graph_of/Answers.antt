@@ -1,4 +1,4 @@
-use Rattle.std.proofs.Common.{◌≡◌, nat_eq, subst}
+use Rattle.std.proofs.Common.{nat_eq, subst}
 use Rattle.std.specs.List.{AllByRecursion}
 use Rattle.std.specs.Cmp.Lexicographic.{pointwise}
 use Rattle.dep_key.specs.declared.graph.FileGraph.{FileGraph}
