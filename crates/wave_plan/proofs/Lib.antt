@@ -1,0 +1,5 @@
+pub mod AnswerLemmas
+pub mod SetLemmas
+pub mod MapLemmas
+pub mod OrderLemmas
+pub mod PlanLemmas

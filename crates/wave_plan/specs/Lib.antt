@@ -1,0 +1,4 @@
+pub mod Validity
+pub mod Reasons
+pub mod Plans
+pub mod Told
