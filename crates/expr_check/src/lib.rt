@@ -23,9 +23,18 @@ pub use line::Line;
 pub use log::Log;
 pub use members::{member_named, member_value};
 pub use named::Named;
-pub use names::{name_check, name_of, name_value, self_value};
+pub use names::{
+    copied_type, is_print, local_named, local_value, name_check, name_of, name_value, named_in,
+    one_step, property, self_value, value_keys, value_of,
+};
 pub use operators::{binary, converted, unary};
 pub use place::Place;
+pub use say::{
+    say_about, say_has_errors, say_no_conversion, say_not_a_value, say_not_callable, say_not_found,
+    say_wrong_arguments,
+};
 pub use scope::{Local, Scope};
 pub use typed::Typed;
-pub use types::{Found, laid_out, type_named, type_written, valued};
+pub use types::{
+    Found, fetch, laid_out, look_up, type_named, type_written, usable, valued, written_name,
+};

@@ -20,7 +20,7 @@ use type_rules::{Answers, Meaning, Ty};
 use typed_code::Step;
 
 /// A copy of a type, if there is one.
-fn copied_type(ty: &Option<Ty>) -> Result<Option<Ty>, AllocError>
+pub fn copied_type(ty: &Option<Ty>) -> Result<Option<Ty>, AllocError>
     ensures { IfOk result (λ copy. copy ≡ ty.now) }
 {
     match ty {
@@ -46,7 +46,7 @@ fn copied_local(local: &Local) -> Result<Local, AllocError>
 }
 
 /// Of one name in one block, the first local.
-fn named_in<'a>(block: &'a [Local], name: &str) -> Option<&'a Local>
+pub fn named_in<'a>(block: &'a [Local], name: &str) -> Option<&'a Local>
     ensures { option_copied result ≡ scopes.named_in block.now name.now }
 {
     for local in block {
@@ -58,7 +58,7 @@ fn named_in<'a>(block: &'a [Local], name: &str) -> Option<&'a Local>
 }
 
 /// The local of a name, from the innermost block outwards. There are at most as many blocks as brackets may be open.
-fn local_named<'a>(blocks: &'a [Items<Local>], name: &str) -> Option<&'a Local>
+pub fn local_named<'a>(blocks: &'a [Items<Local>], name: &str) -> Option<&'a Local>
     ensures { option_copied result ≡ scopes.local_named blocks.now name.now }
 {
     match blocks {
@@ -71,7 +71,7 @@ fn local_named<'a>(blocks: &'a [Items<Local>], name: &str) -> Option<&'a Local>
 }
 
 /// One step alone.
-fn one_step(alloc: Global, step: Step) -> Result<Items<Step>, NoMemory>
+pub fn one_step(alloc: Global, step: Step) -> Result<Items<Step>, NoMemory>
     ensures { IfOk result (λ code. code ≡ step ∷ []) }
 {
     let mut code = Items::new(alloc);
@@ -80,7 +80,7 @@ fn one_step(alloc: Global, step: Step) -> Result<Items<Step>, NoMemory>
 }
 
 /// The keys of a name that is no local.
-fn value_keys(alloc: Global, scope: &Scope, name: &str) -> Result<Vec<Key>, NoMemory>
+pub fn value_keys(alloc: Global, scope: &Scope, name: &str) -> Result<Vec<Key>, NoMemory>
     ensures { IfOk result (λ keys. keys.items ≡ spec.value_keys scope.now name.now) }
 {
     let path = scope.path.as_str();
@@ -99,7 +99,7 @@ fn value_keys(alloc: Global, scope: &Scope, name: &str) -> Result<Vec<Key>, NoMe
 }
 
 /// A member, or a global.
-fn value_of(key: Key, mutable: bool, ty: Ty) -> Named
+pub fn value_of(key: Key, mutable: bool, ty: Ty) -> Named
     ensures { result ≡ spec.value_of key mutable ty }
 {
     match key.kind {
