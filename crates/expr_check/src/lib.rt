@@ -24,13 +24,13 @@ pub use log::Log;
 pub use members::{member_named, member_value};
 pub use named::Named;
 pub use names::{
-    copied_type, is_print, local_named, local_value, name_check, name_of, name_value, one_step,
-    property, self_value, value_keys, value_of,
+    copied_type, is_print, local_named, local_value, name_check, name_of, name_value, named_in,
+    one_step, property, self_value, value_keys, value_of,
 };
 pub use operators::{binary, converted, unary};
 pub use place::Place;
 pub use say::{
-    say_has_errors, say_no_conversion, say_not_a_value, say_not_callable, say_not_found,
+    say_about, say_has_errors, say_no_conversion, say_not_a_value, say_not_callable, say_not_found,
     say_wrong_arguments,
 };
 pub use scope::{Local, Scope};

@@ -57,6 +57,29 @@ impl Log {
         Ok(())
     }
 
+    /// The keys that were asked.
+    pub fn asked(&self) -> &BTreeSet<Key>
+        ensures { result.now.keys ≡ self.now.asked }
+    {
+        &self.asked
+    }
+
+    /// Whether what is said doesn't count.
+    pub fn is_muted(&self) -> bool
+        ensures { result ≡ self.now.muted }
+    {
+        self.muted
+    }
+
+    /// What was said, and which keys were asked.
+    pub fn into_sets(self) -> (BTreeSet<Line>, BTreeSet<Key>)
+        ensures errors { result.0.keys ≡ self.errors }
+        ensures asked { result.1.keys ≡ self.asked }
+    {
+        let Log { errors, asked, .. } = self;
+        (errors, asked)
+    }
+
     /// From now on what is said counts or not.
     pub fn mute(&mut self, muted: bool)
         ensures { self.new ≡ muting muted self.old }

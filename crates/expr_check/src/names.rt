@@ -46,7 +46,7 @@ fn copied_local(local: &Local) -> Result<Local, AllocError>
 }
 
 /// Of one name in one block, the first local.
-fn named_in<'a>(block: &'a [Local], name: &str) -> Option<&'a Local>
+pub fn named_in<'a>(block: &'a [Local], name: &str) -> Option<&'a Local>
     ensures { option_copied result ≡ scopes.named_in block.now name.now }
 {
     for local in block {

@@ -66,7 +66,7 @@ fn about_three(
 }
 
 /// Says that something is wrong about a name.
-fn say_about(
+pub fn say_about(
     alloc: Global,
     log: &mut Log,
     at: Place,
