@@ -3,3 +3,4 @@ pub mod SetLemmas
 pub mod MapLemmas
 pub mod OrderLemmas
 pub mod PlanLemmas
+pub mod Judgements

@@ -5,11 +5,13 @@
 mod found;
 mod graphs;
 mod judging;
+mod laws;
 mod named;
 mod plan;
 mod planning;
 mod reasons;
 
 pub use dep_key::{FileNo, Key, NoMemory};
+pub use laws::judgement_is_one;
 pub use plan::{Asked, FirstFile, Plan, PriorsWhy, Seen, Why};
 pub use planning::first_wave;
