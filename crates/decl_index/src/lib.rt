@@ -15,3 +15,4 @@ pub use declarations::declared_keys;
 pub use dep_key::{Key, Keys, NoMemory};
 pub use found::{Declared, Item};
 pub use index::{DeclRef, Index};
+pub use keys::is_private;

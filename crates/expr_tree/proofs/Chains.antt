@@ -3,7 +3,7 @@ use Rattle.std.proofs.Common.{◌≡◌, List, [], ◌∷◌, Option, Some, None
 use Rattle.dep_key.specs.declared.key.Key.{Key}
 use Rattle.type_rules.specs.declared.meaning.Meaning.{Meaning}
 use Rattle.swift_ast.specs.Leaves.{Leaf}
-use Rattle.checks.specs.Checks.{◌>>=◌, both, on_value, paired, found, unsaid, grouped}
+use Rattle.checks.specs.Checks.{◌>>=◌, go_on, both, on_value, paired, found, sure, grouped}
 use Rattle.checks.specs.Logs.{Orders, Logged, made, made_then, made_both}
 use Rattle.checks.specs.Strictness.{IsStrict}
 use Rattle.checks.proofs.Made.{made_bind, made_of_both}
@@ -13,9 +13,9 @@ use Rattle.expr_check.specs.declared.typed.Typed.{Typed}
 use Rattle.expr_check.specs.declared.scope.Scope.{Scope}
 use Rattle.expr_check.specs.Types.{CheckOf}
 use Rattle.expr_check.specs.Messages.{place_of}
-use Rattle.expr_check.specs.Expressions.{Callee, Given, binary, call, value_callee, member_named, member_value, method_named}
-use Rattle.expr_check.specs.Phrases.{Phrase, Front, Value, Name, MemberOf, Argument, Part, Member, Call, chain, givens, as_value, as_callee, callee_name, extended}
-use Rattle.expr_tree.specs.Fronts.{checks_in}
+use Rattle.expr_check.specs.Expressions.{Callee, IsValue, Given, binary, call, value_callee, member_named, member_value, method_named, method_meant}
+use Rattle.expr_check.specs.Phrases.{Phrase, Front, Value, MemberOf, Argument, Part, Member, Call, chain, givens, as_value, as_callee, callee_name, extended}
+use Rattle.expr_tree.specs.Fronts.{call_check, checks_in}
 
 -- a value that was made is made at once
 pub then_value : {X Y : Type 0} (o : Orders Key Line) (meanings : Key → Meaning) (value : Option X) (f : X → CheckOf Y) (log : Logged Key Line) →
@@ -104,3 +104,27 @@ pub value_goes_on : (o : Orders Key Line) (meanings : Key → Meaning) (s : Scop
     (value, new) ≡ made o meanings check old → made o meanings (extended s first (Value (found value)) parts) new ≡ made o meanings (extended s first (Value check) parts) old
 value_goes_on o meanings s first check parts value old new h =
     ap (λ v. made o meanings (extended s first (Value (found v.0)) parts) v.1) h ∙ sym ((strict_value o meanings s first parts).at check old)
+
+-- a value that is called
+pub callee_of_value : (o : Orders Key Line) (meanings : Key → Meaning) (s : Scope) (first : Leaf) (value : Option Typed) (old : Logged Key Line) →
+    made o meanings (as_callee s first (Value (found value))) old ≡ made_then (value, old) (λ v log. (Some (IsValue v.ty), log))
+callee_of_value o meanings s first value old = made_bind o meanings (found value) (λ v. sure (IsValue v.ty)) old
+
+-- a member that is called, of a value that was made
+pub callee_of_member : (o : Orders Key Line) (meanings : Key → Meaning) (s : Scope) (first m : Leaf) (base : Typed) (got : Option Callee) (old new : Logged Key Line) →
+    (got, new) ≡ made o meanings (go_on (member_named s base.ty m) (λ found. method_meant s (place_of first) base found)) old → (got, new) ≡ made o meanings (as_callee s first (MemberOf (found (Some base)) m)) old
+callee_of_member o meanings s first m base got old new h = h ∙ sym (made_bind o meanings (found (Some base)) (λ base. member_named s base.ty m >>= (λ found. method_meant s (place_of first) base found)) old)
+
+-- what is called, its arguments, and the call
+pub call_made : (o : Orders Key Line) (meanings : Key → Meaning) (s : Scope) (first name : Leaf) (front : Front) (args : List Argument) (callee : Option Callee) (values : Option (List Given)) (got : Option Typed) (old mid end new : Logged Key Line) →
+    name ≡ callee_name first front → (callee, mid) ≡ made o meanings (as_callee s first front) old → (values, end) ≡ made o meanings (givens s args) mid →
+    (got, new) ≡ made o meanings (on_value (paired callee values) (call s (place_of first) name)) end → (got, new) ≡ made o meanings (call_check s first front args) old
+call_made o meanings s first name front args callee values got old mid end new e h v g =
+    let f : Leaf → Callee × List Given → Logged Key Line → Option Typed × Logged Key Line = λ name x log. made o meanings (call s (place_of first) name x) log in
+    g
+    ∙ sym (then_value o meanings (paired callee values) (call s (place_of first) name) end)
+    ∙ ap (λ (m : Option (List Given) × Logged Key Line). made_then (paired callee m.0, m.1) (f name)) v
+    ∙ ap (λ (m : Option Callee × Logged Key Line). made_then (made_both m (λ log. made o meanings (givens s args) log)) (f name)) h
+    ∙ ap (λ m. made_then m (f name)) (sym (made_of_both o meanings (as_callee s first front) (givens s args) old))
+    ∙ ap (λ name. made_then (made o meanings (both (as_callee s first front) (givens s args)) old) (f name)) e
+    ∙ sym (made_bind o meanings (both (as_callee s first front) (givens s args)) (call s (place_of first) (callee_name first front)) old)

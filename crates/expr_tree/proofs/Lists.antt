@@ -1,5 +1,7 @@
 -- Arguments and their values, one by one.
-use Rattle.std.proofs.Common.{◌≡◌, List, [], ◌∷◌, ◌++◌, map, flat_map, Option, Some, None, refl, sym, ap, ◌∙◌, append_assoc}
+use Rattle.std.proofs.Common.{arith, ◌≡◌, length, List, [], ◌∷◌, ◌++◌, flat_map, Option, Some, None, refl, sym, ap, ◌∙◌, append_assoc}
+use Rattle.std.specs.Vec.Iter.{into_iter_items, into_iter_len}
+use Rattle.std.specs.declared.vec.IntoIter.{IntoIter}
 use Rattle.dep_key.specs.declared.key.Key.{Key}
 use Rattle.type_rules.specs.declared.meaning.Meaning.{Meaning}
 use Rattle.typed_code.specs.declared.step.Step.{Step}
@@ -46,6 +48,10 @@ prints_alone t [] = refl
 prints_alone t (g ∷ []) = refl
 prints_alone t (g ∷ next ∷ givens) = refl
 
+none_left : {X : Type 0} (xs : List X) → length xs ≡ 0 → xs ≡ []
+none_left [] n = refl
+none_left (x ∷ xs) n = absurd (omega arith)
+
 -- where no argument is left, none is to be fitted
 pub fitted_none : (params : List Parameter) → fitted params [] ≡ []
 fitted_none [] = refl
@@ -61,5 +67,7 @@ fits o meanings params more p all rest g before next got old new e f h n =
     ∙ ap (λ gs. made o meanings (all_behind before (fitted params (givens_view gs))) old) (sym f)
 
 -- the end of the arguments
-pub fits_end : (o : Orders Key Line) (meanings : Key → Meaning) (params : List Parameter) (all : List argument.Given) (values : Option (List Typed)) (log : Logged Key Line) → all ≡ [] → (values, log) ≡ made o meanings (all_behind values (fitted params (givens_view all))) log
-fits_end o meanings params all values log e = ap (λ cs. made o meanings (all_behind values cs) log) (sym (ap (λ gs. fitted params (givens_view gs)) e ∙ fitted_none params))
+pub fits_end : {Z : Type 0} (o : Orders Key Line) (meanings : Key → Meaning) (params : List Parameter) (it : IntoIter argument.Given Z) (values : Option (List Typed)) (log : Logged Key Line) →
+    into_iter_len it ≡ length (into_iter_items it) → into_iter_len it ≡ 0 → (values, log) ≡ made o meanings (all_behind values (fitted params (givens_view (into_iter_items it)))) log
+fits_end o meanings params it values log e n =
+    ap (λ cs. made o meanings (all_behind values cs) log) (sym (ap (λ gs. fitted params (givens_view gs)) (none_left (into_iter_items it) (sym e ∙ n)) ∙ fitted_none params))

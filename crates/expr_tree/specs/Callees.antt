@@ -29,6 +29,10 @@ argument_view (Some g) = Some (given_view g)
 abbrev pub givens_view : List argument.Given → List Given
 givens_view givens = map given_view givens
 
+abbrev pub arguments_view : Option (Vec argument.Given) → Option (List Given)
+arguments_view None = None
+arguments_view (Some givens) = Some (givens_view givens.items)
+
 abbrev pub values_view : Option (Vec Typed) → Option (List Typed)
 values_view None = None
 values_view (Some values) = Some values.items

@@ -1,17 +1,21 @@
 //! Calls.
 
 ghost use Rattle.std.specs.Prelude.{◌≡◌, [], ◌∷◌, ◌++◌, flat_map, map, IfOk};
-ghost use Rattle.checks.specs.Checks.{appended};
+ghost use Rattle.checks.specs.Checks.{all, appended, go_on, on_value, paired, sure};
 ghost use Rattle.checks.specs.Logs.{made};
-ghost use Rattle.expr_check.specs.Messages.{orders};
+ghost use Rattle.expr_check.specs.Messages.{orders, place_of};
 ghost use Rattle.expr_check.specs.Expressions as spec;
-ghost use Rattle.expr_check.specs.Types.{wrong_name};
+ghost use Rattle.expr_check.specs.Types.{valued, wrong_name};
 ghost use Rattle.expr_check.specs.Message as is;
-ghost use Rattle.expr_tree.specs.Callees.{given_view, givens_view, argument_view, lone, print_lone, values_view};
+ghost use Rattle.expr_tree.specs.Callees.{arguments_view, argument_view, called_view, callee_view, given_view, givens_view, lone, print_lone, values_view};
 
+use crate::callee::Callee;
 use crate::given::Given;
 use dep_key::{Name, NoMemory};
-use expr_check::{Log, Place, Typed, say_no_conversion, say_wrong_arguments};
+use expr_check::{
+    Log, Place, Scope, Typed, converted, say_no_conversion, say_not_callable, say_wrong_arguments,
+    valued,
+};
 use sqlite_items::Items;
 use std::alloc::Global;
 use swift_ast::Leaf;
@@ -19,7 +23,7 @@ use type_rules::{Answers, Parameter, Ty};
 use typed_code::Step;
 
 /// Whether there is an argument for each parameter, each with its label.
-pub fn same_labels(params: &[Parameter], givens: &[Given]) -> bool
+fn same_labels(params: &[Parameter], givens: &[Given]) -> bool
     ensures { result ≡ spec.same_labels params.now (givens_view givens.now) }
 {
     let mut rest = params;
@@ -41,7 +45,7 @@ pub fn same_labels(params: &[Parameter], givens: &[Given]) -> bool
 }
 
 /// One value more, if all so far were there and it is.
-pub fn appended(
+fn appended(
     values: Option<Vec<Typed>>,
     value: Option<Typed>,
 ) -> Result<Option<Vec<Typed>>, NoMemory>
@@ -57,6 +61,32 @@ pub fn appended(
             }
         },
     }
+}
+
+/// Each argument where its parameter is wanted: the values of all, if each is of the type of its parameter.
+#[tactic(auto, using(crate::proofs::Lists::fits_end))]
+fn fitted<A: Answers>(
+    alloc: Global,
+    answers: &A,
+    log: &mut Log,
+    params: &[Parameter],
+    givens: Vec<Given>,
+) -> Result<Option<Vec<Typed>>, NoMemory>
+    ensures { IfOk result (λ got. (values_view got, log.new) ≡ made orders (A.meanings answers.now) (all (spec.fitted params.now (givens_view givens.items))) log.old) }
+{
+    let mut rest = params;
+    let mut values = Some(Vec::new(alloc));
+    for given in givens {
+        match rest {
+            [] => return Ok(values),
+            [param, more @ ..] => {
+                let value = converted(alloc, answers, log, given.first, &param.ty, given.value)?;
+                values = appended(values, value)?;
+                rest = more;
+            }
+        }
+    }
+    Ok(values)
 }
 
 /// The receiver, if there is one, and the arguments behind it.
@@ -110,7 +140,7 @@ fn call_code(
 }
 
 /// A call that has its arguments.
-pub fn called(
+fn called(
     alloc: Global,
     receiver: Option<Typed>,
     values: Vec<Typed>,
@@ -122,6 +152,34 @@ pub fn called(
     let values = received(alloc, receiver, values)?;
     let code = call_code(alloc, values, symbol, &ty)?;
     Ok(Typed { ty, code })
+}
+
+/// A call whose arguments have their labels.
+#[tactic(auto, using(crate::proofs::CheckLaws::bind))]
+fn taken<A: Answers>(
+    alloc: Global,
+    answers: &A,
+    log: &mut Log,
+    scope: &Scope,
+    first: Place,
+    receiver: Option<Typed>,
+    symbol: Name,
+    params: &[Parameter],
+    gives: Ty,
+    givens: Vec<Given>,
+) -> Result<Option<Typed>, NoMemory>
+    ensures { IfOk result (λ got. (got, log.new) ≡ made orders (A.meanings answers.now) (go_on (all (spec.fitted params.now (givens_view givens.items))) (λ values. go_on (valued scope.now first gives) (λ of. sure (spec.typed of (spec.call_code (spec.received receiver ++ values) symbol of))))) log.old) }
+{
+    match fitted(alloc, answers, log, params, givens)? {
+        None => Ok(None),
+        Some(values) => match valued(alloc, answers, log, scope, first, gives)? {
+            None => Ok(None),
+            Some(ty) => {
+                let value = called(alloc, receiver, values, symbol, ty)?;
+                Ok(Some(value))
+            }
+        },
+    }
 }
 
 /// The only argument.
@@ -178,7 +236,7 @@ fn wrong_arguments<A: Answers>(
 
 /// `print`, which takes one argument without label.
 #[tactic(auto, using(crate::proofs::Lists::prints_alone))]
-pub fn print_call<A: Answers>(
+fn print_call<A: Answers>(
     alloc: Global,
     answers: &A,
     log: &mut Log,
@@ -216,5 +274,76 @@ fn print_lone<A: Answers>(
                 Ok(none)
             }
         }
+    }
+}
+
+/// A call, in an expression that begins at a place. `name` is the last name of what is called.
+pub fn call<A: Answers>(
+    alloc: Global,
+    answers: &A,
+    log: &mut Log,
+    scope: &Scope,
+    first: Place,
+    name: &Leaf,
+    callee: Callee,
+    givens: Vec<Given>,
+) -> Result<Option<Typed>, NoMemory>
+    ensures { IfOk result (λ got. (got, log.new) ≡ made orders (A.meanings answers.now) (spec.call scope.now first name.now (callee_view callee, givens_view givens.items)) log.old) }
+{
+    match callee {
+        Callee::IsValue(ty) => {
+            say_not_callable(alloc, log, first, &ty)?;
+            Ok(None)
+        }
+        Callee::Prints => {
+            let value = print_call(alloc, answers, log, name, givens)?;
+            Ok(value)
+        }
+        Callee::Takes(receiver, symbol, params, gives) => {
+            if same_labels(params.as_slice(), givens.as_slice()) {
+                let value = taken(
+                    alloc,
+                    answers,
+                    log,
+                    scope,
+                    first,
+                    receiver,
+                    symbol,
+                    params.as_slice(),
+                    gives,
+                    givens,
+                )?;
+                Ok(value)
+            } else {
+                let none = wrong_arguments(alloc, answers, log, name)?;
+                Ok(none)
+            }
+        }
+    }
+}
+
+/// A call, where what is called and all arguments have no error.
+pub fn call_given<A: Answers>(
+    alloc: Global,
+    answers: &A,
+    log: &mut Log,
+    scope: &Scope,
+    first: &Leaf,
+    name: &Leaf,
+    callee: Option<Callee>,
+    givens: Option<Vec<Given>>,
+) -> Result<Option<Typed>, NoMemory>
+    ensures { IfOk result (λ got. (got, log.new) ≡ made orders (A.meanings answers.now) (on_value (paired (called_view callee) (arguments_view givens)) (spec.call scope.now (place_of first.now) name.now)) log.old) }
+{
+    match callee {
+        None => Ok(None),
+        Some(callee) => match givens {
+            None => Ok(None),
+            Some(givens) => {
+                let at = Place::of(first);
+                let value = call(alloc, answers, log, scope, at, name, callee, givens)?;
+                Ok(value)
+            }
+        },
     }
 }

@@ -1,0 +1,6 @@
+pub mod ReadLemmas
+pub mod PartLemmas
+pub mod FieldLemmas
+pub mod TellLemmas
+pub mod ProviderLemmas
+pub mod SettleLemmas
