@@ -1,1 +1,8 @@
+pub mod BlockLemmas
 pub mod FileLemmas
+pub mod FunctionLemmas
+pub mod LocalLemmas
+pub mod Making
+pub mod Reaching
+pub mod Rows
+pub mod TargetLemmas

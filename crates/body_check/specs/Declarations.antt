@@ -177,13 +177,22 @@ abbrev pub function_end : Scope → List ℕ → Leaf → ℕ → Bool → Optio
 function_end s symbol name params falls gives (inner, code) =
     behind (missing_return falls gives name) (sure (function_units symbol s.self_type params falls (all_there inner.types) gives code))
 
+-- a function, before its parameters are read
+abbrev pub in_function : Scope → Option Ty → Scope
+in_function s gives = record s { result = gives; blocks = [] ∷ [] }
+
+-- a function whose result has a type, or an error
+abbrev pub function_giving : Scope → List ℕ → Leaf → List Param → Block → Option Ty → CheckOf (List CodeUnit)
+function_giving s symbol name params body gives = do
+  front ← params_read params (in_function s gives)
+  inside ← in_block (block_statements body) front
+  function_end s symbol name (length params) (falls_through (block_statements body)) gives inside
+
 -- A body with parameters and a result, in the scope outside it. The scope of the parameters lies outside the body's.
 abbrev pub function_check : Scope → List ℕ → Leaf → List Param → CheckOf Ty → Block → CheckOf (List CodeUnit)
 function_check s symbol name params result body = do
   gives ← tried result
-  front ← params_read params (record s { result = gives; blocks = [] ∷ [] })
-  inside ← in_block (block_statements body) front
-  function_end s symbol name (length params) (falls_through (block_statements body)) gives inside
+  function_giving s symbol name params body gives
 
 -- ---- globals and properties with initial values
 

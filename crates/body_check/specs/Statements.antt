@@ -2,6 +2,7 @@
 use Rattle.std.specs.Prelude.{ℕ, Bool, true, false, ◌||◌, List, [], ◌∷◌, ◌++◌, length, Option, Some, None}
 use Rattle.std.specs.List.{list_any, list_all}
 use Rattle.std.specs.Option.{option_map}
+use Rattle.dep_key.specs.declared.key.Key.{Key}
 use Rattle.type_rules.specs.declared.ty.Ty.{Ty}
 use Rattle.type_rules.specs.declared.ty.Ty.TheVariants as ty
 use Rattle.type_rules.specs.declared.meaning.Meaning.TheVariants as means
@@ -10,9 +11,9 @@ use Rattle.swift_ast.specs.declared.statements.BindingSpecifier.TheVariants.{Let
 use Rattle.swift_ast.specs.declared.statements.TypeName.{TypeName}
 use Rattle.swift_ast.specs.declared.statements.Target.{Target}
 use Rattle.swift_ast.specs.declared.statements.Block.{Block, Block-F, fold-Block}
-use Rattle.swift_ast.specs.declared.statements.Stmt.{Stmt-F}
-use Rattle.swift_ast.specs.declared.statements.If.{If-F}
-use Rattle.swift_ast.specs.declared.statements.ElseIf.{ElseIf-F}
+use Rattle.swift_ast.specs.declared.statements.Stmt.{Stmt, Stmt-F, fold-Stmt}
+use Rattle.swift_ast.specs.declared.statements.If.{If, If-F, fold-If}
+use Rattle.swift_ast.specs.declared.statements.ElseIf.{ElseIf, ElseIf-F, fold-ElseIf}
 use Rattle.swift_ast.specs.Leaves.{Leaf}
 use Rattle.typed_code.specs.declared.step.Step.{Step}
 use Rattle.typed_code.specs.declared.step.Step.TheVariants as step
@@ -93,12 +94,16 @@ abbrev pub is_var : BindingSpecifier → Bool
 is_var (Let t) = false
 is_var (Var t) = true
 
+-- the code of a local, in whose expression a value was found or not
+abbrev pub set_local : Scope → Leaf → Place → Option (Option Ty) → Option Typed → CheckOf (List Step)
+set_local s name first wanted found = noting (not_declared s name) (fitting first wanted found >>= (λ v. sure (v.code ++ step.SetLocal (length s.types) [] v.ty ∷ [])))
+
 -- A local. Its name is declared with its type, or with none, whatever else is wrong.
 abbrev pub local_read : Bool → Leaf → Option (Leaf × TypeName) → Phrase → Scope → Read
 local_read mutable name annotation value s = do
   wanted ← tried (annotated s annotation)
   found ← tried (value.check s)
-  code ← tried (noting (not_declared s name) (fitting value.first wanted found >>= (λ v. sure (v.code ++ step.SetLocal (length s.types) [] v.ty ∷ []))))
+  code ← tried (set_local s name value.first wanted found)
   sure (declaring s name.text (binding_type wanted found) mutable, code)
 
 -- ---- assignments
@@ -128,18 +133,22 @@ abbrev pub root_value : Scope → Leaf → Named → CheckOf Typed
 root_value s t (named.OfSelf key mutable of) = both (self_value s t) (valued s (place_of t) of) >>= (λ (base, of). sure (typed of []))
 root_value s t name = name_value s t name
 
+abbrev pub named_destination : Scope → Leaf → Named → CheckOf Destination
+named_destination s t name = both (root_value s t name) (can_assign (is_assignable name) t) >>= (λ q. sure (record { of = q.0.ty; store = storing name; members = [] }))
+
 -- A root is read as a name first. Where it can't be assigned to, it has no type.
 abbrev pub root_destination : Scope → Leaf → CheckOf Destination
 root_destination s t = do
   name ← name_of s t
-  q ← both (root_value s t name) (can_assign (is_assignable name) t)
-  sure (record { of = q.0.ty; store = storing name; members = [] })
+  named_destination s t name
+
+-- one member further
+abbrev pub through : Destination → Key → Ty → Destination
+through destination key of = record { of = of; store = destination.store; members = destination.members ++ (key.context, key.name) ∷ [] }
 
 -- A member that is assigned to is a stored `var`. One that isn't has no type.
 abbrev pub member_meant : Scope → Leaf → Leaf → Destination → Found → CheckOf Destination
-member_meant s root m destination (key, means.Value mutable of) = do
-  q ← both (valued s (place_of root) of) (can_assign mutable m)
-  sure (record { of = of; store = destination.store; members = destination.members ++ (key.context, key.name) ∷ [] })
+member_meant s root m destination (key, means.Value mutable of) = both (valued s (place_of root) of) (can_assign mutable m) >>= (λ q. sure (through destination key of))
 member_meant s root m destination _ = wrong_name m (λ name. is.NotAValue name)
 
 abbrev pub member_destination : Scope → Leaf → Leaf → Destination → CheckOf Destination
@@ -154,11 +163,12 @@ members_destination s root destination ((dot, m) ∷ more) = members_destination
 abbrev pub target_destination : Scope → Target → CheckOf Destination
 target_destination s t = members_destination s t.root (root_destination s t.root) t.members
 
+-- a value, in an expression that begins at a place, where it is assigned
+abbrev pub assigned : Place → Destination × Typed → CheckOf (List Step)
+assigned first (destination, v) = converted first destination.of v >>= (λ v. sure (v.code ++ destination.store destination.members destination.of ∷ []))
+
 abbrev pub assign_check : Target → Phrase → Scope → CheckOf (List Step)
-assign_check target value s = do
-  (destination, v) ← both (target_destination s target) (value.check s)
-  v ← converted value.first destination.of v
-  sure (v.code ++ destination.store destination.members destination.of ∷ [])
+assign_check target value s = both (target_destination s target) (value.check s) >>= assigned value.first
 
 -- ---- control
 
@@ -171,12 +181,15 @@ abbrev pub converted_to : Place → Option Ty → Typed → CheckOf Typed
 converted_to first None v = unsaid
 converted_to first (Some of) v = converted first of v
 
-abbrev pub return_check : Leaf → Option Phrase → Scope → CheckOf (List Step)
-return_check t None s = return_none t s.result
-return_check t (Some value) s = do
+abbrev pub return_value : Phrase → Scope → CheckOf (List Step)
+return_value value s = do
   v ← value.check s
   v ← converted_to value.first s.result v
   sure (v.code ++ step.Return v.ty ∷ [])
+
+abbrev pub return_check : Leaf → Option Phrase → Scope → CheckOf (List Step)
+return_check t None s = return_none t s.result
+return_check t (Some value) s = return_value value s
 
 abbrev pub condition : Phrase → Scope → CheckOf (List Step)
 condition value s = do
@@ -194,6 +207,9 @@ while_read value block s = do
 pub record Clause : Type 0 where
   pub condition : Phrase
   pub block : List Statement
+
+abbrev pub clause : Phrase → List Statement → Clause
+clause condition block = record { condition = condition; block = block }
 
 abbrev pub branch : List Step → List Step → Branch
 branch condition block = record { condition = condition; block = block }
@@ -246,10 +262,24 @@ abbrev pub one_block : Block-F Statement (List Statement) Clause Statement → L
 one_block x = x.stmts
 
 abbrev pub one_else_if : ElseIf-F Statement (List Statement) Clause Statement → Clause
-one_else_if x = record { condition = expr_phrase x.condition; block = x.block }
+one_else_if x = clause (expr_phrase x.condition) x.block
 
 abbrev pub one_if : If-F Statement (List Statement) Clause Statement → Statement
-one_if x = if_statement (record { condition = expr_phrase x.condition; block = x.block } ∷ x.else_ifs) (option_map (λ p. p.1) x.last)
+one_if x = if_statement (clause (expr_phrase x.condition) x.block ∷ x.else_ifs) (option_map (λ p. p.1) x.last)
 
 unfoldable pub block_statements : Block → List Statement
 block_statements = fold-Block Statement (List Statement) Clause Statement one_stmt one_block one_else_if one_if
+
+unfoldable pub stmt_meant : Stmt → Statement
+stmt_meant = fold-Stmt Statement (List Statement) Clause Statement one_stmt one_block one_else_if one_if
+
+unfoldable pub else_if_meant : ElseIf → Clause
+else_if_meant = fold-ElseIf Statement (List Statement) Clause Statement one_stmt one_block one_else_if one_if
+
+unfoldable pub if_meant : If → Statement
+if_meant = fold-If Statement (List Statement) Clause Statement one_stmt one_block one_else_if one_if
+
+-- the statements of a last `else`, if there is one
+abbrev pub last_statements : Option (Leaf × Block) → List Statement
+last_statements None = []
+last_statements (Some (keyword, block)) = block_statements block
