@@ -144,10 +144,10 @@ EXAMPLES = [
      {"a.swift": "private let n = 1\nlet n = 2", "b.swift": "let n = 3"}, "errors",
      "a.swift:1:13: error: invalid redeclaration of 'n'|a.swift:2:5: error: invalid redeclaration of 'n'"
      "|b.swift:1:5: error: invalid redeclaration of 'n'"),
-    ("LANGUAGE, first language: the object", {"a.swift": "let NAME = 1 + OTHER\nlet OTHER = 0_07\n"}, "object a.swift",
+    ("OBJECTS: the object of globals", {"a.swift": "let NAME = 1 + OTHER\nlet OTHER = 0_07\n"}, "object a.swift",
      "object a.swift|global NAME 1|func NAME:init 0 0 0| int 1| load OTHER 0 1| add| store NAME 0 1| return 0|end|global OTHER 1"
      "|func OTHER:init 0 0 0| int 7| store OTHER 0 1| return 0|end"),
-    ("LANGUAGE, first language: 'print' is not a value", {"a.swift": "let a = print"}, "errors",
+    ("LANGUAGE: 'print' is not a value", {"a.swift": "let a = print"}, "errors",
      "a.swift:1:9: error: 'print' is not a value"),
     ("an unknown part wins, so that `struct S` with `let a: Missing` and, on a line of its own, `let s: S` is circular",
      {"a.swift": "struct S { let a: Missing\nlet s: S }"}, "errors",

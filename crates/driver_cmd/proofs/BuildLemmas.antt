@@ -1,5 +1,5 @@
 -- What a project is, from what was read of it, and what a build of it leaves.
-use Rattle.std.proofs.Common.{◌≡◌, ℕ, true, false, List, [], ◌∷◌, length, arith, Option, Some, None, option_map, refl, sym, ap, subst, ◌∙◌}
+use Rattle.std.proofs.Common.{◌≡◌, ℕ, true, false, List, [], ◌∷◌, length, map, arith, Option, Some, None, option_map, refl, sym, ap, subst, ◌∙◌}
 use Rattle.std.specs.Prelude.{◌≢◌, ◌==◌, IfSome}
 use Rattle.std.specs.FinMap.{keys}
 use Rattle.diag_text.specs.declared.diag.Diag.{Diag}
@@ -14,18 +14,26 @@ use Rattle.drv_outside.specs.IfObserved.{IfObserved}
 use Rattle.drv_outside.specs.declared.types.Call.TheVariants.{Names}
 use Rattle.drv_outside.specs.declared.types.Entry.{Entry}
 use Rattle.drv_outside.specs.declared.types.Source.{Source}
-use Rattle.integer_globals.specs.declared.trees.FileTree.{FileTree}
+use Rattle.swift_ast.specs.declared.declarations.FileTree.{FileTree}
 use Rattle.std.specs.Prelude.{Result, Ok, Err, IfErr}
 use Rattle.std.proofs.lemmas.Bool.Decides.{nat_tests}
 use Rattle.drv_outside.specs.Status.{status_of}
 use Rattle.drv_outside.specs.declared.status.Status.{Status}
 use Rattle.drv_outside.specs.declared.types.TreeEnd.{TreeEnd}
 use Rattle.drv_outside.specs.declared.types.TreeEnd.TheVariants.{Failed, NoMemory}
-use Rattle.driver_cmd.specs.Clean.{IsRefused, listing, forms, HaveTrees, listing_errors, form_errors, trees_of, LeavesCleanBuild, refusal, refused, build_of, built, module_errors, module_objects}
+use Rattle.driver_cmd.specs.Clean.{IsRefused, listing, size, forms, too_large_error, HaveTrees, listing_errors, LeavesCleanBuild, refusal, refused, build_of, built, module_errors, module_objects}
 use Rattle.driver_cmd.specs.Calls.{PassedCalls, AreSynced, ReadsPass}
 use Rattle.driver_cmd.proofs.CallLemmas.{pass_listed, then_synced}
-use Rattle.driver_cmd.specs.Parsed.{AreParsed, entry_paths, source_paths}
-use Rattle.driver_cmd.specs.declared.parsed.Parsed.{Parsed}
+use Rattle.frontend.specs.declared.parsed.Parsed.{Parsed}
+use Rattle.driver_cmd.specs.Parsed.{entry_paths, source_paths}
+use Rattle.driver_cmd.specs.ReadSources.{AreRead, IsOfFiles, IsReadFrom, HasPlainPaths}
+use Rattle.driver_cmd.proofs.ParsedLemmas.{listed_plain, trees_plain}
+use Rattle.drv_outside.specs.Plain.{is_plain_path}
+use Rattle.std.specs.List.{All, list_all}
+use Rattle.frontend.specs.Parsing.{parsed_path}
+use Rattle.driver_cmd.specs.declared.build.ReadSources.{ReadSources}
+use Rattle.driver_cmd.specs.declared.build.ReadSources.TheVariants.{Refused, Trees}
+use Rattle.driver_cmd.specs.declared.sources.Files.TheVariants as files
 
 -- the paths of a listing are those of the sources
 listed_paths : (sources : List Source) → entry_paths (entries_of sources) ≡ source_paths sources
@@ -37,21 +45,36 @@ pub refused_listing : (observed : Option TreeState) (entries : List Entry) (erro
 refused_listing None entries errors is has some = tt
 refused_listing (Some t) entries errors is has some = listing (has ∙ ap (λ es. listing_errors (entry_paths es)) is ∙ ap listing_errors (listed_paths t.sources)) some
 
-pub refused_forms : (observed : Option TreeState) (entries : List Entry) (files : List Parsed) (errors : List Diag) → IfSome observed (λ t. entries ≡ entries_of t.sources)
-    → listing_errors (entry_paths entries) ≡ [] → IfSome observed (λ t. AreParsed t.sources (entry_paths entries) files)
-    → errors ≡ form_errors files → errors ≢ [] → IfSome observed (λ t. IsRefused t.sources errors)
-refused_forms None entries files errors is none parsed has some = tt
-refused_forms (Some t) entries files errors is none parsed has some =
+pub refused_size : (observed : Option TreeState) (entries : List Entry) (errors : List Diag) → IfSome observed (λ t. entries ≡ entries_of t.sources)
+    → listing_errors (entry_paths entries) ≡ [] → IfSome observed (λ t. AreRead t.sources (entry_paths entries) files.TooLarge) → errors ≡ too_large_error ∷ [] → IfSome observed (λ t. IsRefused t.sources errors)
+refused_size None entries errors is none large has = tt
+refused_size (Some t) entries errors is none large has =
     let paths : entry_paths entries ≡ source_paths t.sources = ap entry_paths is ∙ listed_paths t.sources in
-    forms (ap listing_errors (sym paths) ∙ none) files (subst (λ ps. AreParsed t.sources ps files) paths parsed) has some
+    size (ap listing_errors (sym paths) ∙ none) (subst (λ ps. AreRead t.sources ps files.TooLarge) paths large) has
 
-pub have_trees : (observed : Option TreeState) (entries : List Entry) (files : List Parsed) (trees : List FileTree) → IfSome observed (λ t. entries ≡ entries_of t.sources)
-    → listing_errors (entry_paths entries) ≡ [] → IfSome observed (λ t. AreParsed t.sources (entry_paths entries) files)
-    → form_errors files ≡ [] → trees ≡ trees_of files → IfSome observed (λ t. HaveTrees t.sources trees)
-have_trees None entries files trees is none parsed no_forms has = tt
-have_trees (Some t) entries files trees is none parsed no_forms has =
-    let paths : entry_paths entries ≡ source_paths t.sources = ap entry_paths is ∙ listed_paths t.sources in
-    record { listing = ap listing_errors (sym paths) ∙ none; files = files; parsed = subst (λ ps. AreParsed t.sources ps files) paths parsed; forms = no_forms; is = has }
+of_files : (t : TreeState) (paths : List (List ℕ)) (read : Vec Parsed Global) (project : ReadSources) → paths ≡ source_paths t.sources → listing_errors paths ≡ []
+    → AreRead t.sources paths (files.Parsed read) → IsOfFiles read.items project → IsReadFrom t.sources project
+of_files t paths read (Refused errors) same none parsed is =
+    let at : AreRead t.sources (source_paths t.sources) (files.Parsed read) = subst (λ ps. AreRead t.sources ps (files.Parsed read)) same parsed in
+    forms (ap listing_errors (sym same) ∙ none) at.1 read.items at.0 is.0 is.1
+of_files t paths read (Trees trees) same none parsed is =
+    let at : AreRead t.sources (source_paths t.sources) (files.Parsed read) = subst (λ ps. AreRead t.sources ps (files.Parsed read)) same parsed in
+    record { listing = ap listing_errors (sym same) ∙ none; size = at.1; files = read.items; parsed = at.0; forms = is.0; is = is.1 }
+
+-- what is read of sources that hold no more bytes than they may
+pub read_from : (observed : Option TreeState) (entries : List Entry) (read : Vec Parsed Global) (project : ReadSources) → IfSome observed (λ t. entries ≡ entries_of t.sources)
+    → listing_errors (entry_paths entries) ≡ [] → IfSome observed (λ t. AreRead t.sources (entry_paths entries) (files.Parsed read)) → IsOfFiles read.items project
+    → IfSome observed (λ t. IsReadFrom t.sources project)
+read_from None entries read project is none parsed of = tt
+read_from (Some t) entries read project is none parsed of = of_files t (entry_paths entries) read project (ap entry_paths is ∙ listed_paths t.sources) none parsed of
+
+-- files at the paths of a listing without errors stand at plain paths, where they have trees
+pub plain_project : (entries : List Entry) (parsed : List Parsed) (project : ReadSources) → listing_errors (entry_paths entries) ≡ [] → map parsed_path parsed ≡ entry_paths entries
+    → IsOfFiles parsed project → HasPlainPaths project
+plain_project entries parsed (Refused errors) none same is = tt
+plain_project entries parsed (Trees trees) none same is =
+    subst (λ ts. All (λ (file : FileTree). is_plain_path file.path ≡ true) ts) (sym is.1)
+    (trees_plain parsed (subst (λ ps. list_all is_plain_path ps ≡ true) (sym same) (listed_plain (entry_paths entries) none)))
 
 no_items : {X : Type 0} (xs : List X) → (length xs == 0) ≡ true → xs ≡ []
 no_items [] h = refl

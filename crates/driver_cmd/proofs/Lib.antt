@@ -3,5 +3,4 @@ pub mod OutcomeLemmas
 pub mod CallLemmas
 pub mod BuildLemmas
 pub mod DrivenLemmas
-pub mod TreeLemmas
 pub mod CleanLemmas

@@ -6,9 +6,9 @@ use Rattle.std.specs.Prelude.{flat_map}
 use Rattle.std.specs.List.{All}
 use Rattle.std.proofs.lemmas.List.Elements.{All-nil, All-cons, All-head, All-tail}
 use Rattle.drv_outside.specs.Plain.{is_plain_name, is_plain_path}
-use Rattle.integer_globals.specs.declared.trees.FileTree.{FileTree}
-use Rattle.integer_module.specs.declared.outcome.Outcome.{Outcome}
-use Rattle.integer_module.specs.declared.outcome.Outcome.TheVariants.{Object, Errors}
+use Rattle.swift_ast.specs.declared.declarations.FileTree.{FileTree}
+use Rattle.frontend.specs.declared.outcome.Outcome.{Outcome}
+use Rattle.frontend.specs.declared.outcome.Outcome.TheVariants.{Object, Errors}
 use Rattle.output_names.specs.Stems.{object_name}
 use Rattle.output_names.proofs.StemsLemmas.{object_name_plain}
 use Rattle.driver_cmd.specs.Clean.{errors_in, objects_of}

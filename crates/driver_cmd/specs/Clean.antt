@@ -1,5 +1,5 @@
 -- What a build from nothing gives: its error lines, and what it leaves in the build folder.
-use Rattle.std.specs.Prelude.{◌≡◌, ◌≢◌, ℕ, not, nat_le, List, [], ◌∷◌, ◌++◌, map, filter, flat_map, length, codes, decimal, Option, Some, None, if◌then◌else◌}
+use Rattle.std.specs.Prelude.{◌≡◌, ◌≢◌, ℕ, ◌<◌, ◌≤◌, not, nat_le, List, [], ◌∷◌, ◌++◌, map, filter, flat_map, length, codes, decimal, Option, Some, None, if◌then◌else◌}
 use Rattle.diag_text.specs.Line.{lines_of}
 use Rattle.diag_text.specs.declared.diag.Diag.{Diag}
 use Rattle.disk_commit.specs.Files.{folder_of}
@@ -8,16 +8,16 @@ use Rattle.drv_outside.specs.Plain.{is_plain_path}
 use Rattle.drv_outside.specs.Reads.{OnlyReads}
 use Rattle.drv_outside.specs.TreeState.{TreeState, Folder}
 use Rattle.drv_outside.specs.declared.types.Source.{Source}
-use Rattle.integer_globals.specs.declared.trees.FileTree.{FileTree}
-use Rattle.integer_module.specs.Outcomes.{outcome_of}
-use Rattle.integer_module.specs.declared.outcome.Outcome.{Outcome}
-use Rattle.integer_module.specs.declared.outcome.Outcome.TheVariants.{Object, Errors}
+use Rattle.swift_ast.specs.declared.declarations.FileTree.{FileTree}
+use Rattle.frontend.specs.Outcomes.{outcome_of}
+use Rattle.frontend.specs.declared.outcome.Outcome.{Outcome}
+use Rattle.frontend.specs.declared.outcome.Outcome.TheVariants.{Object, Errors}
 use Rattle.output_names.specs.Stems.{object_name}
 use Rattle.driver_cmd.specs.Calls.{PassedCalls, AreSynced}
-use Rattle.driver_cmd.specs.Parsed.{AreParsed, source_paths}
-use Rattle.driver_cmd.specs.declared.listing.TheConstants.{MOST_SOURCES}
-use Rattle.driver_cmd.specs.declared.parsed.Parsed.{Parsed}
-use Rattle.driver_cmd.specs.declared.parsed.Parsed.TheVariants.{Tree, NoTree}
+use Rattle.driver_cmd.specs.Parsed.{AreParsed, source_paths, source_bytes}
+use Rattle.driver_cmd.specs.declared.listing.TheConstants.{MOST_SOURCES, MOST_SOURCE_BYTES}
+use Rattle.frontend.specs.declared.parsed.Parsed.{Parsed}
+use Rattle.frontend.specs.declared.parsed.Parsed.TheVariants.{Tree, NoTree}
 
 -- an error without a place
 abbrev pub unplaced : List ℕ → Diag
@@ -29,6 +29,9 @@ not_plain_error path = unplaced (codes "'" ++ path ++ codes "' is not a plain pa
 abbrev pub too_many_error : ℕ → Diag
 too_many_error count = unplaced (decimal count ++ codes " source files, at most " ++ decimal MOST_SOURCES)
 
+abbrev pub too_large_error : Diag
+too_large_error = unplaced (codes "source files hold more than " ++ decimal MOST_SOURCE_BYTES ++ codes " bytes")
+
 abbrev pub not_plain_errors : List (List ℕ) → List Diag
 not_plain_errors paths = map not_plain_error (filter (λ path. not (is_plain_path path)) paths)
 
@@ -39,14 +42,14 @@ listing_errors paths = if nat_le (length paths) MOST_SOURCES then not_plain_erro
 -- The errors of files without a tree.
 abbrev pub form_error : Parsed → List Diag
 form_error (Tree file) = []
-form_error (NoTree path) = record { path = path; line = 1; column = 1; text = codes "form not built yet" } ∷ []
+form_error (NoTree error) = error ∷ []
 
 abbrev pub form_errors : List Parsed → List Diag
 form_errors = flat_map form_error
 
 abbrev pub tree_of : Parsed → List FileTree
 tree_of (Tree file) = file ∷ []
-tree_of (NoTree path) = []
+tree_of (NoTree error) = []
 
 abbrev pub trees_of : List Parsed → List FileTree
 trees_of = flat_map tree_of
@@ -86,16 +89,18 @@ refusal errors = record { lines = lines_of errors; folder = None }
 abbrev pub build_of : List FileTree → Clean
 build_of files = record { lines = lines_of (module_errors files); folder = Some (folder_of (module_objects files)) }
 
--- The sources are refused for these errors: those of their list, or else those of their files
--- without a tree.
+-- The sources are refused for these errors: those of their list, else that they hold too many bytes, or else those of their
+-- files without a tree.
 pub data IsRefused (sources : List Source) (errors : List Diag) : Type 0 where
   listing : errors ≡ listing_errors (source_paths sources) → errors ≢ [] → IsRefused sources errors
-  forms : listing_errors (source_paths sources) ≡ [] → (files : List Parsed) → AreParsed sources (source_paths sources) files
+  size : listing_errors (source_paths sources) ≡ [] → MOST_SOURCE_BYTES < source_bytes sources (source_paths sources) → errors ≡ too_large_error ∷ [] → IsRefused sources errors
+  forms : listing_errors (source_paths sources) ≡ [] → source_bytes sources (source_paths sources) ≤ MOST_SOURCE_BYTES → (files : List Parsed) → AreParsed sources (source_paths sources) files
       → errors ≡ form_errors files → errors ≢ [] → IsRefused sources errors
 
--- There are no errors in the list of the sources, and each has a tree, which are these.
+-- There are no errors in the list of the sources, they hold no more bytes than sources may, and each has a tree, which are these.
 pub record HaveTrees (sources : List Source) (trees : List FileTree) : Type 0 where
   pub listing : listing_errors (source_paths sources) ≡ []
+  pub size : source_bytes sources (source_paths sources) ≤ MOST_SOURCE_BYTES
   pub files : List Parsed
   pub parsed : AreParsed sources (source_paths sources) files
   pub forms : form_errors files ≡ []

@@ -5,23 +5,24 @@ ghost use Rattle.drv_outside.specs.Reads.{OnlyReads};
 ghost use Rattle.drv_outside.specs.IfObserved.{IfObserved};
 ghost use Rattle.diag_text.specs.Line.{lines_of};
 ghost use Rattle.disk_commit.specs.Files.{folder_of};
-ghost use Rattle.integer_globals.specs.declared.trees.FileTree.{FileTree};
+ghost use Rattle.swift_ast.specs.declared.declarations.FileTree.{FileTree};
 ghost use Rattle.driver_cmd.specs.Calls.{AreSynced, PassedCalls, ReadsPass};
 ghost use Rattle.driver_cmd.specs.Clean.{LeavesCleanBuild, module_errors, module_objects};
 ghost use Rattle.driver_cmd.specs.Command.{request_of};
 ghost use Rattle.driver_cmd.specs.Driven.{Driven, outside};
 ghost use Rattle.driver_cmd.specs.Printed.{Printed};
-ghost use Rattle.driver_cmd.specs.ReadSources.{IsReadFrom, HasPlainPaths};
+ghost use Rattle.driver_cmd.specs.ReadSources.{IsOfFiles, IsReadFrom, HasPlainPaths};
 
-use crate::listing::listing_errors;
+use crate::listing::{listing_errors, too_large_errors};
 use crate::outputs::{error_lines, objects};
-use crate::parsed::{form_errors, read_files, trees};
+use crate::sources::{Files, Sorted, read_files, sort_out};
+use decl_index::Index;
 use diag_text::{Diag, lines};
 use disk_commit::{File, leave_exactly};
 use drv_outside::{NoMemory, Sink, Status, Tree};
-use integer_globals::FileTree;
-use integer_module::check_module;
+use frontend::{Parsed, check_module};
 use std::alloc::Global;
+use swift_ast::FileTree;
 
 /// What was read of a project.
 #[derive(Drop)]
@@ -40,6 +41,18 @@ struct Outputs {
     lines: Vec<u8>,
 }
 
+// What the files of a project are: the errors of those without a tree, or the trees of all.
+fn project_of(alloc: Global, files: Vec<Parsed>) -> Result<ReadSources, NoMemory>
+    ensures { IfOk result (λ project. IsOfFiles files.items project) }
+{
+    let Sorted { errors, trees } = sort_out(alloc, files)?;
+    if errors.is_empty() {
+        Ok(ReadSources::Trees(trees))
+    } else {
+        Ok(ReadSources::Refused(errors))
+    }
+}
+
 // Reads the sources, as far as there are no errors in their list.
 fn read_project<T: Tree>(alloc: Global, tree: &mut T) -> Result<ReadSources, Status>
     ensures project { IfOk result (λ project. IfSome (T.observed tree.old) (λ t. IsReadFrom t.sources project)) }
@@ -56,32 +69,40 @@ fn read_project<T: Tree>(alloc: Global, tree: &mut T) -> Result<ReadSources, Sta
     if !errors.is_empty() {
         return Ok(ReadSources::Refused(errors));
     }
-    let files = read_files(alloc, tree, &entries)?;
-    let errors = form_errors(alloc, &files)?;
-    if !errors.is_empty() {
-        return Ok(ReadSources::Refused(errors));
+    match read_files(alloc, tree, &entries)? {
+        Files::TooLarge => {
+            let errors = too_large_errors(alloc)?;
+            Ok(ReadSources::Refused(errors))
+        }
+        Files::Parsed(files) => {
+            let project = project_of(alloc, files)?;
+            Ok(project)
+        }
     }
-    let files = trees(alloc, files)?;
-    Ok(ReadSources::Trees(files))
 }
 
 // Makes all that a build of these files writes and prints.
-fn make_outputs(alloc: Global, files: &[FileTree]) -> Result<Outputs, NoMemory>
-    requires { All (λ (file : FileTree). IsTrue (is_plain_path file.path)) files.now }
-    ensures objects { IfOk result (λ outputs. outputs.objects.items ≡ module_objects files.now) }
-    ensures lines { IfOk result (λ outputs. outputs.lines.items ≡ lines_of (module_errors files.now)) }
+fn make_outputs(alloc: Global, files: Vec<FileTree>) -> Result<Outputs, NoMemory>
+    requires { All (λ (file : FileTree). IsTrue (is_plain_path file.path)) files.items }
+    ensures objects { IfOk result (λ outputs. outputs.objects.items ≡ module_objects files.items) }
+    ensures lines { IfOk result (λ outputs. outputs.lines.items ≡ lines_of (module_errors files.items)) }
 {
-    let outcomes = check_module(alloc, files)?;
+    let index = Index::new(alloc, files)?;
+    let outcomes = check_module(alloc, &index)?;
     let lines = error_lines(alloc, &outcomes)?;
-    let objects = objects(alloc, files, outcomes)?;
+    let objects = objects(alloc, index.files(), outcomes)?;
     Ok(Outputs { objects, lines })
 }
 
 // Leaves the objects of these files in the build folder, and answers with their error lines.
-fn build_module<T: Tree>(alloc: Global, tree: &mut T, files: &[FileTree]) -> Result<Vec<u8>, Status>
-    requires { All (λ (file : FileTree). IsTrue (is_plain_path file.path)) files.now }
-    ensures lines { IfOk result (λ lines. lines.items ≡ lines_of (module_errors files.now)) }
-    ensures folder { OnOk result (IfObserved (T.observed tree.old) (T.observed tree.new) (λ t u. u.folder ≡ folder_of (module_objects files.now))) }
+fn build_module<T: Tree>(
+    alloc: Global,
+    tree: &mut T,
+    files: Vec<FileTree>,
+) -> Result<Vec<u8>, Status>
+    requires { All (λ (file : FileTree). IsTrue (is_plain_path file.path)) files.items }
+    ensures lines { IfOk result (λ lines. lines.items ≡ lines_of (module_errors files.items)) }
+    ensures folder { OnOk result (IfObserved (T.observed tree.old) (T.observed tree.new) (λ t u. u.folder ≡ folder_of (module_objects files.items))) }
     ensures synced { OnOk result (IfObserved (T.observed tree.old) (T.observed tree.new) (PassedCalls AreSynced)) }
     ensures early { IfErr result (λ status. status ≡ Status.NoMemory → OnlyReads (T.observed tree.old) (T.observed tree.new)) }
     ensures ok_count { OnOk result (T.faults tree.new ≡ T.faults tree.old) }
@@ -112,7 +133,7 @@ fn build_project<T: Tree>(alloc: Global, tree: &mut T) -> Result<Vec<u8>, Status
             Ok(printed.into_vec())
         }
         ReadSources::Trees(files) => {
-            let lines = build_module(alloc, tree, &files)?;
+            let lines = build_module(alloc, tree, files)?;
             Ok(lines)
         }
     }

@@ -7,11 +7,10 @@ mod command;
 mod laws;
 mod listing;
 mod outputs;
-mod parsed;
+mod sources;
 mod top_call;
 
 pub use command::{folder_name, read_request};
 pub use drv_outside::{MapFault, Status};
 pub use laws::clean_build_is_one;
-pub use parsed::Parsed;
 pub use top_call::{drive, drive_alone};

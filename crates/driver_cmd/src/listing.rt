@@ -1,5 +1,5 @@
-ghost use Rattle.std.specs.Prelude.{◌≡◌, IfOk, string_bytes};
-ghost use Rattle.driver_cmd.specs.Clean.{unplaced, not_plain_error, too_many_error, not_plain_errors, listing_errors};
+ghost use Rattle.std.specs.Prelude.{◌≡◌, [], ◌∷◌, IfOk, string_bytes};
+ghost use Rattle.driver_cmd.specs.Clean.{unplaced, not_plain_error, too_many_error, too_large_error, not_plain_errors, listing_errors};
 ghost use Rattle.driver_cmd.specs.Parsed.{entry_paths};
 
 use diag_text::Diag;
@@ -8,6 +8,9 @@ use std::alloc::Global;
 
 /// A project may have this many source files.
 pub const MOST_SOURCES: usize = 2000;
+
+/// The sources of a project may hold this many bytes together.
+pub const MOST_SOURCE_BYTES: usize = 16_777_216;
 
 // An error without a place.
 fn unplaced(alloc: Global, text: String) -> Result<Diag, NoMemory>
@@ -35,6 +38,23 @@ fn too_many_error(alloc: Global, count: usize) -> Result<Diag, NoMemory>
     let text = format!(in alloc; "{count} source files, at most {MOST_SOURCES}")?;
     let error = unplaced(alloc, text)?;
     Ok(error)
+}
+
+fn too_large_error(alloc: Global) -> Result<Diag, NoMemory>
+    ensures { IfOk result (λ error. error ≡ too_large_error) }
+{
+    let text = format!(in alloc; "source files hold more than {MOST_SOURCE_BYTES} bytes")?;
+    let error = unplaced(alloc, text)?;
+    Ok(error)
+}
+
+/// The errors of sources that hold too many bytes.
+pub fn too_large_errors(alloc: Global) -> Result<Vec<Diag>, NoMemory>
+    ensures { IfOk result (λ errors. errors.items ≡ too_large_error ∷ []) }
+{
+    let mut errors = Vec::new(alloc);
+    errors.push(too_large_error(alloc)?)?;
+    Ok(errors)
 }
 
 fn not_plain_errors(alloc: Global, entries: &[Entry]) -> Result<Vec<Diag>, NoMemory>

@@ -1,16 +1,16 @@
 ghost use Rattle.std.specs.Prelude.{◌≡◌, ◌++◌, length, flat_map, All, IsTrue, IfOk, OnOk};
 ghost use Rattle.diag_text.specs.Line.{lines_of};
 ghost use Rattle.drv_outside.specs.Plain.{is_plain_path};
-ghost use Rattle.integer_globals.specs.declared.trees.FileTree.{FileTree};
+ghost use Rattle.swift_ast.specs.declared.declarations.FileTree.{FileTree};
 ghost use Rattle.driver_cmd.specs.Clean.{errors_in, objects_of};
 
 use diag_text::lines;
 use disk_commit::File;
 use drv_outside::NoMemory;
-use integer_globals::FileTree;
-use integer_module::Outcome;
+use frontend::Outcome;
 use output_names::object_name;
 use std::alloc::Global;
+use swift_ast::FileTree;
 
 // Puts the errors of an outcome behind the text so far.
 fn push_errors(alloc: Global, text: &mut Vec<u8>, outcome: &Outcome) -> Result<(), NoMemory>

@@ -9,6 +9,11 @@ const ONE: &[u8] =
 const TWO: &[u8] =
     b"object b.swift\nglobal two 1\nfunc two:init 0 0 0\n load one 0 1\n load one 0 1\n add\n store two 0 1\n return 0\nend\n";
 
+const SIZE: &[u8] = b"object Size.swift\nfunc Size:init 1 1 1\n get 0 1\n return 1\nend\n";
+
+const AREA: &[u8] =
+    b"object Area.swift\nfunc Size:area 1 1 1\n get 0 1\n field 0 1 1\n int 2\n mul\n return 1\nend\nfunc run 0 0 0\n int 3\n call Size:init 1 1\n call Size:area 1 1\n print.Int\n return 0\nend\n";
+
 #[test]
 fn objects_are_left(rt: HostRuntime) -> Result<(), Fail> {
     let alloc = rt.alloc();
@@ -24,12 +29,53 @@ fn objects_are_left(rt: HostRuntime) -> Result<(), Fail> {
 }
 
 #[test]
-fn another_form_is_refused(rt: HostRuntime) -> Result<(), Fail> {
+fn structs_have_extensions_in_other_files(rt: HostRuntime) -> Result<(), Fail> {
     let alloc = rt.alloc();
-    let mut tree = tree_with(alloc, "c.swift", "func f() { }\n")?;
+    let mut tree = tree_with(
+        alloc,
+        "Size.swift",
+        "struct Size {\n    let width: Int\n}\n",
+    )?;
+    put(
+        &mut tree,
+        "Area.swift",
+        "extension Size {\n    var area: Int { return width * 2 }\n}\nfunc run() {\n    print(Size(width: 3).area)\n}\n",
+    )?;
+    let mut out = MemSink::new(alloc);
+    assert!(rt; built(&rt, &mut tree, &mut out)? == Status::Done);
+    assert!(rt; out.bytes().is_empty());
+    assert!(rt; bytes_of(alloc, &mut tree, "Size.o")?.as_slice() == SIZE);
+    assert!(rt; bytes_of(alloc, &mut tree, "Area.o")?.as_slice() == AREA);
+    Ok(())
+}
+
+#[test]
+fn errors_come_by_place(rt: HostRuntime) -> Result<(), Fail> {
+    let alloc = rt.alloc();
+    let mut tree = tree_with(
+        alloc,
+        "a.swift",
+        "let one = missing\nfunc name() -> Int { return \"one\" }\n",
+    )?;
     let mut out = MemSink::new(alloc);
     assert!(rt; built(&rt, &mut tree, &mut out)? == Status::Errors);
-    assert!(rt; out.bytes() == b"c.swift:1:1: error: form not built yet\n".as_slice());
+    let lines =
+        b"a.swift:1:11: error: cannot find 'missing' in scope\na.swift:2:29: error: cannot convert value of type 'String' to 'Int'\n";
+    assert!(rt; out.bytes() == lines.as_slice());
+    assert!(rt; count(alloc, &mut tree)? == 0);
+    Ok(())
+}
+
+#[test]
+fn files_without_a_tree_are_refused(rt: HostRuntime) -> Result<(), Fail> {
+    let alloc = rt.alloc();
+    let mut tree = tree_with(alloc, "c.swift", "func f( { }\n")?;
+    put(&mut tree, "d.swift", "let a = $\n")?;
+    put(&mut tree, "e.swift", "let b = missing\n")?;
+    let mut out = MemSink::new(alloc);
+    assert!(rt; built(&rt, &mut tree, &mut out)? == Status::Errors);
+    let lines = b"c.swift:1:9: error: unexpected '{'\nd.swift:1:9: error: character not allowed\n";
+    assert!(rt; out.bytes() == lines.as_slice());
     assert!(rt; count(alloc, &mut tree)? == 0);
     Ok(())
 }

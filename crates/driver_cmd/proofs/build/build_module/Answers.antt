@@ -25,20 +25,20 @@ returns-in_err-names-clause-early g c =
 
 pub leave_exactly-requires-clause-plain_files : goal.leave_exactly-requires-clause-plain_files
 leave_exactly-requires-clause-plain_files g c =
-    let same : c.deref-2.result.now ≡ module_objects c.args.files.now = c.deref-2.ensures.value ∙ c.in_ok-objects.ensures.objects in
-    subst (λ fs. All (λ (object : File). is_plain_name object.name ≡ true) fs) (sym same) (objects_plain c.args.files.now _ c.requires)
+    let same : c.deref-2.result.now ≡ module_objects c.args.files.items = c.deref-2.ensures.value ∙ c.in_ok-objects.ensures.objects in
+    subst (λ fs. All (λ (object : File). is_plain_name object.name ≡ true) fs) (sym same) (objects_plain c.args.files.items _ c.requires)
 
 pub returns-in-Ok-clause-folder : goal.returns-in-Ok-clause-folder
 returns-in-Ok-clause-folder g c =
     let observed = g.T.Tree.observed in
-    let same : c.deref-2.result.now ≡ module_objects c.args.files.now = c.deref-2.ensures.value ∙ c.in_ok-objects.ensures.objects in
+    let same : c.deref-2.result.now ≡ module_objects c.args.files.items = c.deref-2.ensures.value ∙ c.in_ok-objects.ensures.objects in
     let exactly : IfSome (observed c.names.new.self) (λ t. c.in_ok-names.names.items ≡ keys t.folder)
-    → IfObserved (observed c.names.new.self) (observed c.leave_exactly.new.tree) (λ t u. u.folder ≡ folder_of (module_objects c.args.files.now)) =
+    → IfObserved (observed c.names.new.self) (observed c.leave_exactly.new.tree) (λ t u. u.folder ≡ folder_of (module_objects c.args.files.items)) =
     subst (λ fs. IfSome (observed c.names.new.self) (λ t. c.in_ok-names.names.items ≡ keys t.folder)
     → IfObserved (observed c.names.new.self) (observed c.leave_exactly.new.tree) (λ t u. u.folder ≡ folder_of fs)) same
     (subst (λ ns. IfSome (observed c.names.new.self) (λ t. ns ≡ keys t.folder)
     → IfObserved (observed c.names.new.self) (observed c.leave_exactly.new.tree) (λ t u. u.folder ≡ folder_of c.deref-2.result.now)) c.deref.ensures.value c.in-Ok.ensures.folder) in
-    module_folder c.in_ok-names.names.items (folder_of (module_objects c.args.files.now)) (observed c.args.tree.now) (observed c.names.new.self) (observed c.leave_exactly.new.tree)
+    module_folder c.in_ok-names.names.items (folder_of (module_objects c.args.files.items)) (observed c.args.tree.now) (observed c.names.new.self) (observed c.leave_exactly.new.tree)
     c.in_ok-names.ensures.change c.in_ok-names.ensures.answer exactly
 
 pub returns-clause-early : goal.returns-clause-early

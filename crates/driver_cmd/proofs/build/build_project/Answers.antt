@@ -1,11 +1,8 @@
-use Rattle.std.proofs.Common.{◌≡◌, ◌∙◌, ap, subst}
+use Rattle.std.proofs.Common.{◌∙◌, ap, subst}
 use Rattle.std.specs.Prelude.{IfSome}
 use Rattle.std.proofs.lemmas.Result.{err_from_is_err_and}
 use Rattle.diag_text.specs.Line.{lines_of}
 use Rattle.drv_outside.specs.Reads.{reads_then}
-use Rattle.drv_outside.specs.IfObserved.{IfObserved}
-use Rattle.disk_commit.specs.Files.{folder_of}
-use Rattle.driver_cmd.specs.Clean.{module_errors, module_objects}
 use Rattle.driver_cmd.specs.ReadSources.{IsReadFrom}
 use Rattle.driver_cmd.proofs.BuildLemmas.{refused_leaves, built_leaves}
 use Rattle.driver_cmd.proofs.build.build_project.Goals as goal
@@ -28,6 +25,6 @@ returns-in_ok-lines-in-Trees-clause-clean g c =
     built_leaves (observed c.args.tree.now) (observed c.read_project.new.tree) (observed c.build_module.new.tree) c.in-Trees.files.items c.in_ok-lines-in-Trees.lines.items
     c.in_ok-errors.ensures.passed
     (subst (λ p. IfSome (observed c.args.tree.now) (λ t. IsReadFrom t.sources p)) c.in-Trees.is c.in_ok-errors.ensures.project)
-    (c.in_ok-lines-in-Trees.ensures.lines ∙ ap (λ fs. lines_of (module_errors fs)) c.deref-in-Trees.ensures.value)
-    (subst (λ fs. IfObserved (observed c.read_project.new.tree) (observed c.build_module.new.tree) (λ t u. u.folder ≡ folder_of (module_objects fs))) c.deref-in-Trees.ensures.value c.in_ok-lines-in-Trees.ensures.folder)
+    c.in_ok-lines-in-Trees.ensures.lines
+    c.in_ok-lines-in-Trees.ensures.folder
     c.in_ok-lines-in-Trees.ensures.synced

@@ -1,0 +1,10 @@
+pub mod DeclarationLemmas
+pub mod ExtensionLemmas
+pub mod FileCheckLemmas
+pub mod FunctionLemmas
+pub mod MemberLemmas
+pub mod RunLaws
+pub mod SiteLemmas
+pub mod SizeLemmas
+pub mod StructLemmas
+pub mod ValueLemmas

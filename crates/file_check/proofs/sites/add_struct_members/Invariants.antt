@@ -1,0 +1,6 @@
+use Rattle.std.proofs.Common.{◌≡◌, ◌++◌, drop, map}
+use Rattle.file_check.specs.Sites.{struct_member_key}
+use Rattle.file_check.proofs.sites.add_struct_members.Given as goal
+
+abbrev pub invariant-loop-member : goal.invariant-loop-member
+invariant-loop-member l = l.keys.items ++ map (struct_member_key l.context) (drop l.member-index l.members) ≡ l.fn.keys.items ++ map (struct_member_key l.context) l.members

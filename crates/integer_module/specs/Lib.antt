@@ -1,9 +1,0 @@
-pub mod Meanings
-pub mod Index
-pub mod Providing
-pub mod Demand
-pub mod Errors
-pub mod Objects
-pub mod IntegerText
-pub mod Outcomes
-pub mod Laws
