@@ -10,6 +10,7 @@ use std::alloc::Global;
 use swift_ast::FileTree;
 
 // The trees of a module's files, and the error of each file without one.
+#[derive(Drop)]
 struct Trees {
     errors: Vec<Diag>,
     trees: Vec<FileTree>,

@@ -4,12 +4,14 @@ use crate::cases::Case;
 use std::alloc::{AllocError, Global};
 
 /// A source file.
+#[derive(Drop)]
 pub struct Source {
     pub path: String,
     pub text: String,
 }
 
 /// A module's source files, by path.
+#[derive(Drop)]
 pub struct Module {
     pub sources: Vec<Source>,
 }
