@@ -1,3 +1,4 @@
+pub mod PlaceLemmas
 pub mod Cuts
 pub mod PrintTypes
 pub mod PrintLaws

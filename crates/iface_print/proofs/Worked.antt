@@ -5,8 +5,9 @@ use Rattle.std.proofs.lemmas.Fmt.{decimal_digit}
 use Rattle.dep_key.specs.KeyBuilders.{top_level, nominal, key_name}
 use Rattle.type_rules.specs.declared.ty.Ty.TheVariants as ty
 use Rattle.type_rules.specs.declared.meaning.Meaning.TheVariants as means
-use Rattle.iface_print.specs.Examples.{worked, Means, CirclesAreCircular, ErrorsAreBroken, FieldsAreLaidOut}
+use Rattle.iface_print.specs.Examples.{worked, third_file, Means, CirclesAreCircular, ErrorsAreBroken, FieldsAreLaidOut, PartialTextsAreForOthers}
 use Rattle.iface_print.specs.Prints.{print_in}
+use Rattle.iface_print.specs.Partials.{partial_text, partial_line}
 use Rattle.type_infer.specs.Meanings.{having, meaning_in}
 use Rattle.type_infer.specs.Readings.{written_type, words_query}
 use Rattle.expr_check.specs.Types.{look_up}
@@ -65,3 +66,18 @@ fields =
       shared_print = shared-print ∙ (λ i. Some (shared (zero_is i) ++ []));
       alias_is = alias-means;
     }
+
+-- the partial text of the third file, by its numbers
+abbrev others : List ℕ → List ℕ → List ℕ → List ℕ
+others words x b =
+    codes "partial c.swift\npublic struct P " ++ ((words ++ codes "\n") ++ (codes "internal field P:x Int " ++ ((x ++ codes "\n") ++ (codes "internal field P:b Bool " ++ ((b ++ codes "\n") ++ codes "internal alias U P\n")))))
+
+others-text : partial_text (meaning_in (third_file ∷ [])) third_file ≡ others (decimal 4) (decimal 0) (decimal 3)
+unfolding partial_line meaning_in having written_type words_query look_up
+others-text = refl
+
+pub partials : PartialTextsAreForOthers
+partials =
+    let zero_is : decimal 0 ≡ codes "0" = digit 0 (omega arith) in
+    let three_is : decimal 3 ≡ codes "3" = digit 3 (omega arith) in
+    let four_is : decimal 4 ≡ codes "4" = digit 4 (omega arith) in record { text_is = others-text ∙ (λ i. others (four_is i) (zero_is i) (three_is i)) }

@@ -21,6 +21,7 @@ use Rattle.type_rules.specs.declared.meaning.Meaning.{Meaning}
 use Rattle.type_rules.specs.declared.meaning.Meaning.TheVariants as means
 use Rattle.type_infer.specs.Meanings.{meaning_in}
 use Rattle.iface_print.specs.Prints.{print_in}
+use Rattle.iface_print.specs.Partials.{partial_text}
 
 abbrev pub word : List ℕ → Leaf
 word text = record { kind = Identifier; text = text; first_on_line = false; line = 1; column = 1 }
@@ -100,3 +101,23 @@ pub record FieldsAreLaidOut : Type 0 where
   pub own_print : Prints (codes "a.swift") (nominal (codes "T@a.swift")) (codes "private struct T 1 | let b: Swift.Bool 0")
   pub shared_print : Prints (codes "b.swift") (nominal (codes "T")) (codes "public struct T 0")
   pub alias_is : Means (top_level (codes "U")) (means.Alias (ty.Struct (codes "T")))
+
+-- a struct with a field that is kept to the file, a struct that is, and an alias
+abbrev pub third_file : FileTree
+third_file = record {
+  path = codes "c.swift";
+  decls =
+      struct_of (Some (Public (word (codes "public")))) (codes "P") (
+      stored_property let_word (codes "x") (codes "Int") ∷
+      (Some (Private (word (codes "private"))), (stored_property var_word (codes "h") (codes "String")).1) ∷
+      stored_property var_word (codes "b") (codes "Bool") ∷
+      []
+      ) ∷
+      struct_of (Some (Private (word (codes "private")))) (codes "T") (stored_property let_word (codes "b") (codes "Bool") ∷ []) ∷
+      alias None (codes "U") (codes "P") ∷
+      [];
+}
+
+-- what is kept to the file has no line, and takes its place among the fields all the same
+pub record PartialTextsAreForOthers : Type 0 where
+  pub text_is : partial_text (meaning_in (third_file ∷ [])) third_file ≡ codes "partial c.swift\npublic struct P 4\ninternal field P:x Int 0\ninternal field P:b Bool 3\ninternal alias U P\n"

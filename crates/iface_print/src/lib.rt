@@ -6,9 +6,14 @@
 #![tactic(auto)]
 
 ghost use Rattle.iface_print.specs.Coverage.{Covers, KeptKeysMeanTheSame, NodesAgree, PrintsAgree, QueriesAgree, UsedKeysMeanTheSame};
-ghost use Rattle.iface_print.specs.Examples.{CirclesAreCircular, ErrorsAreBroken, FieldsAreLaidOut};
+ghost use Rattle.iface_print.specs.Examples.{CirclesAreCircular, ErrorsAreBroken, FieldsAreLaidOut, PartialTextsAreForOthers};
 ghost use Rattle.iface_print.specs.Laws.{EachPrintIsALine, EqualPrintsMeanTheSame, NodesArePrints};
 
+mod partials;
+mod texts;
+
+pub use partials::partial_text;
+pub use texts::put_print;
 pub use type_infer::{FileTree, Meaning};
 
 /// A print is one line, and fixes the meaning of its key.
@@ -29,9 +34,10 @@ pub fn coverage_laws<X>()
     ensures queries { Covers (QueriesAgree X) }
 {}
 
-/// What the keys of a small module mean, and how they are printed.
+/// What the keys of a small module mean, and how they are printed; and the partial text of a file.
 pub fn worked_examples()
     ensures circles { CirclesAreCircular }
     ensures errors { ErrorsAreBroken }
     ensures fields { FieldsAreLaidOut }
+    ensures partials { PartialTextsAreForOthers }
 {}

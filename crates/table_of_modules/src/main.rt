@@ -1,10 +1,11 @@
-//! Prints what the modules of a table come to: their error lines and object texts. With words it answers to other modules: see
-//! `USAGE`.
+//! Prints what the modules of a table come to: their error lines, and of their files object texts, partial texts and nodes.
+//! With words it answers to other modules: see `USAGE`.
 #![tactic(auto)]
 
 mod answers;
 mod cases;
 mod modules;
+mod nodes;
 
 use answers::module_answer;
 use anyhow::{Error, anyhow};
