@@ -33,7 +33,7 @@ class Typed:
         self.paths = sorted(rng.sample(PATHS, rng.choice([1, 1, 2, 2, 3, 4, 5])))
         self.texts = {p: [] for p in self.paths}
         self.structs, self.aliases, self.globals, self.functions = [], [], [], []
-        self.names = {}
+        self.names, self.building = {}, []
         self.build()
 
     def oops(self, factor=1.0):
@@ -360,12 +360,21 @@ class Typed:
                         options.append(lambda m=m, text=text: self.call(m, text + ".", path, scopes, s, depth))
         if isinstance(t, Struct):
             f = dict(name=self.type_name(t, path), params=[(p["name"], 0, p["type"]) for p in t.stored if not p["initial"]])
-            options.append(lambda: self.call(f, "", path, scopes, s, max(depth, 1)))
+            options.append(lambda: self.memberwise(t, f, path, scopes, s, max(depth, 1)))
         elif depth > 0:
             options.append(lambda: self.literal(t))
             options.append(lambda: self.operator(t, path, scopes, s, depth))
             options.append(lambda: self.operator(t, path, scopes, s, depth))
         return r.choice(options)()
+
+    def memberwise(self, t, f, path, scopes, s, depth):
+        # Of a struct that holds itself there is no value.
+        if t in self.building:
+            return "self"
+        self.building.append(t)
+        text = self.call(f, "", path, scopes, s, depth)
+        self.building.pop()
+        return text
 
     def operator(self, t, path, scopes, s, depth):
         r = self.rng
