@@ -1,3 +1,4 @@
 pub mod Folder
 pub mod Names
 pub mod RunLemmas
+pub mod ChangeLemmas
