@@ -1,1 +1,2 @@
 pub mod ReplacingLemmas
+pub mod NamesLemmas

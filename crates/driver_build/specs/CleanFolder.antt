@@ -2,9 +2,8 @@
 --
 -- It has all outputs of the files without errors, the priors and the record of all files, and the gate, which is open. Where no
 -- file has errors, the merged module and the image are there too. It has no other name.
-use Rattle.std.specs.Prelude.{◌≡◌, ℕ, List, [], ◌∷◌, map}
-use Rattle.std.specs.FinMap.{insert}
-use Rattle.disk_commit.specs.Files.{folder_of}
+use Rattle.std.specs.Prelude.{◌≡◌, List, map}
+use Rattle.disk_commit.specs.Change.{opened_folder}
 use Rattle.disk_commit.specs.declared.files.File.{File}
 use Rattle.drv_outside.specs.TreeState.{Folder}
 use Rattle.module_compile.specs.Compiled.{compiled_in}
@@ -18,10 +17,6 @@ use Rattle.driver_build.specs.declared.results.FileResult.TheVariants.{Compiled}
 -- each file of a module, compiled
 abbrev pub clean_results : List FileTree → List FileResult
 clean_results trees = map (λ tree. Compiled (compiled_in trees tree)) trees
-
--- the folder of these outputs and an open gate
-abbrev pub opened_folder : List ℕ → List File → Folder
-opened_folder gate outputs = insert (folder_of outputs) gate (1 ∷ [])
 
 -- The clean folder of a module with these trees, which are those of the listed sources.
 pub record IsCleanFolder (wanted : Wanted) (trees : List FileTree) (folder : Folder) : Type 0 where

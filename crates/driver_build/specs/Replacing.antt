@@ -1,6 +1,6 @@
 -- How the outputs of a build take the place of what stands in the build folder: the gate and the names of the folder are read,
 -- and then the folder is changed.
-use Rattle.std.specs.Prelude.{◌≡◌, ℕ, Bool, List, [], Option, IfSome, option_map}
+use Rattle.std.specs.Prelude.{◌≡◌, ℕ, Bool, List, Option, IfSome, option_map}
 use Rattle.std.specs.FinMap.{get, keys}
 use Rattle.disk_commit.specs.Change as change
 use Rattle.disk_commit.specs.declared.files.File.{File}
@@ -14,7 +14,7 @@ use Rattle.project_sources.specs.Calls.{ReadsPass}
 
 -- the calls by which a folder of these names is changed to the outputs, where its gate was open or not
 abbrev pub replacing : Names → Bool → List (List ℕ) → List File → List Call
-replacing names opened held outputs = change.changing names.gate names.build_record opened held [] outputs
+replacing names opened held outputs = change.changing names.gate names.build_record opened held outputs
 
 -- It was read whether the gate is open, and which names the folder has.
 pub record IsSeen (names : Names) (opened : Bool) (held : List (List ℕ)) (before between : Option TreeState) : Type 0 where

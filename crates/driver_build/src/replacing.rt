@@ -57,7 +57,6 @@ pub fn replace_folder<T: Tree>(
         names.build_record.as_str(),
         opened,
         &present,
-        &[],
         outputs,
     );
     match end {
