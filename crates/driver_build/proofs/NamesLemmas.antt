@@ -33,7 +33,7 @@ use Rattle.driver_build.proofs.ReplacingLemmas.{MayReplace}
 abbrev pub output_names : Names → List (List ℕ)
 output_names names = flat_map names_of_file names.files ++ names.«module» ∷ names.image ∷ names.priors ∷ names.build_record ∷ []
 
-section (X : Type 0) (Q : X → Type 0) where
+module _ (X : Type 0) (Q : X → Type 0) where
   both : (xs ys : List X) → AllByRecursion Q xs → AllByRecursion Q ys → AllByRecursion Q (xs ++ ys)
   both [] ys a b = b
   both (x ∷ xs) ys a b = (a.0, both xs ys a.1 b)
@@ -52,7 +52,7 @@ Named P file = P file.name
 
 outcome_named : (P : List ℕ → Type 0) (names : FileNames) (graph : FileGraph) (outcome : Outcome) (made : List File) → AllByRecursion P (names_of_file names) → AreOutcomeOutputs names graph outcome made → AllByRecursion (Named P) made
 outcome_named P names graph (Texts texts) made all are =
-    subst (λ m. AllByRecursion (Named P) m) (sym are.2) (all.0, all.1.0, subst P (sym are.1.0) all.1.1.0, tt)
+    subst (λ m. AllByRecursion (Named P) m) (sym are.2) (all.0, (all.1.0, (subst P (sym are.1.0) all.1.1.0, tt)))
 outcome_named P names graph (Errors errors) made all are = subst (λ m. AllByRecursion (Named P) m) (sym are) tt
 
 file_named : (P : List ℕ → Type 0) (names : FileNames) (file : FileResult) (made : List File) → AllByRecursion P (names_of_file names) → AreFileOutputs names file made → AllByRecursion (Named P) made
@@ -68,7 +68,7 @@ files_named P (names ∷ more) (file ∷ files) made all are =
     (files_named P more files are.1 (second (List ℕ) P (names_of_file names) (flat_map names_of_file more) all) are.3))
 
 module_named : (P : List ℕ → Type 0) (linked : Bool) (wanted : Wanted) (files : List FileResult) (made : List File) → P wanted.names.«module» → P wanted.names.image → AreModuleOutputsIf linked wanted files made → AllByRecursion (Named P) made
-module_named P true wanted files made one two are = subst (λ m. AllByRecursion (Named P) m) (sym are.4) (subst P (sym are.2.0) one, subst P (sym are.3.0) two, tt)
+module_named P true wanted files made one two are = subst (λ m. AllByRecursion (Named P) m) (sym are.4) (subst P (sym are.2.0) one, (subst P (sym are.3.0) two, tt))
 module_named P false wanted files made one two are = subst (λ m. AllByRecursion (Named P) m) (sym are) tt
 
 -- What is so of all names that are asked for is so of the outputs' names.
@@ -81,7 +81,7 @@ outputs_named P wanted files graphs made all are =
     (files_named P wanted.names.files files are.of_files (first (List ℕ) P names of_module all) are.are_of_files)
     (both File (Named P) are.of_module _
     (module_named P (list_all is_clean files) wanted files are.of_module last.0 last.1.0 are.are_of_module)
-    (subst P (sym are.are_priors.0) last.1.1.0, last.1.1.1.0, tt)))
+    (subst P (sym are.are_priors.0) last.1.1.0, (last.1.1.1.0, tt))))
 
 -- all names, with the gate's at the end
 split : (names : Names) → all_names names ≡ output_names names ++ names.gate ∷ []
@@ -104,7 +104,7 @@ is-pointwise q name = texts_ties name q ∙ (eq_by_cmp_equiv nat_list_cmp_total)
 swapped : (name gate : List ℕ) → pointwise nat_eq name gate ≡ false → pointwise nat_eq gate name ≡ false
 swapped name gate e = texts_ties gate name ∙ sym (is-pointwise gate name) ∙ e
 
-no_one : (b : Bool) → cond b 1 0 ≡ 0 → b ≡ false
+no_one : (b : Bool) → ◌≡◌ {A = ℕ} (cond b 1 0) 0 → b ≡ false
 no_one true e = cc
 no_one false e = refl
 

@@ -1,7 +1,7 @@
 -- What the outputs of a build leave once they took the place of what stood in the folder, and why a crash at any moment of it
 -- does no harm.
 use Rattle.std.proofs.Common.{◌≡◌, ℕ, Bool, false, List, [], ◌∷◌, ◌++◌, nat_eq, refl, sym, ap, subst, ◌∙◌, Option, Some, None, option_map, append_assoc}
-use Rattle.std.specs.Prelude.{IfSome}
+use Rattle.std.specs.Prelude.{IfSome, Result, Err}
 use Rattle.std.specs.Cmp.Lexicographic.{pointwise}
 use Rattle.std.specs.FinMap.{get, keys, empty}
 use Rattle.disk_commit.specs.Change.{swept, opened_folder}
@@ -22,7 +22,11 @@ use Rattle.drv_outside.specs.declared.types.Call.TheVariants.{Write, Sync}
 use Rattle.file_map.specs.declared.names.Names.{Names}
 use Rattle.ordered_lists.specs.Among.{is_among}
 use Rattle.project_sources.specs.Calls.{PassedCalls, AreSynced, ReadsPass}
-use Rattle.project_sources.proofs.CallLemmas.{then_synced, done_synced}
+use Rattle.project_sources.proofs.CallLemmas.{pass_then, then_synced, done_synced}
+use Rattle.drv_outside.specs.Status.{status_of}
+use Rattle.drv_outside.specs.declared.status.Status.{Status}
+use Rattle.drv_outside.specs.declared.types.TreeEnd.{TreeEnd}
+use Rattle.drv_outside.specs.declared.types.TreeEnd.TheVariants as tree_end
 use Rattle.driver_build.specs.Replacing.{replacing, IsSeen, Replaces, StopsReplacing, reading, changing}
 
 -- What is asked of outputs so that they may take the place of what stands in a folder.
@@ -85,12 +89,12 @@ safe P names outputs opened held t between seen may =
     (may_change P names outputs opened held t seen.reads.reads.calls seen.reads.reads.failed may seen.gate seen.all_names)
 
 -- reads, and then calls that leave what may be trusted
-behind_reads : (P : Folder → Type 0) (t : TreeState) (calls : List Call) (failed : List Bool) (after : Option TreeState) → LeavesOnly P t (all_listed calls failed t) → IfObserved (Some (all_listed calls failed t)) after (LeavesOnly P)
+pub behind_reads : (P : Folder → Type 0) (t : TreeState) (calls : List Call) (failed : List Bool) (after : Option TreeState) → LeavesOnly P t (all_listed calls failed t) → IfObserved (Some (all_listed calls failed t)) after (LeavesOnly P)
     → IfObserved (Some t) after (LeavesOnly P)
 behind_reads P t calls failed None reads so = so
 behind_reads P t calls failed (Some u) reads so = leaves_then P t (all_listed calls failed t) u reads so
 
-read_safely : (P : Folder → Type 0) (t : TreeState) (between : Option TreeState) (reads : OnlyReads (Some t) between) → Durably P (disk_of t) → LeavesOnly P t (all_listed reads.calls reads.failed t)
+pub read_safely : (P : Folder → Type 0) (t : TreeState) (between : Option TreeState) (reads : OnlyReads (Some t) between) → Durably P (disk_of t) → LeavesOnly P t (all_listed reads.calls reads.failed t)
 read_safely P t between reads trusted = subst (λ o. IfObserved (Some t) o (LeavesOnly P)) reads.is (reads_leave P t between trusted reads)
 
 pub replaced_safely : (P : Folder → Type 0) (names : Names) (outputs : List File) (t : TreeState) (after : Option TreeState) → MayReplace names outputs P t → Replaces names outputs (Some t) after → IfObserved (Some t) after (LeavesOnly P)
@@ -107,3 +111,34 @@ stopped_safely P names outputs t after may (changing between opened held seen st
     behind_reads P t reads.calls reads.failed after (read_safely P t between reads may.trusted)
     ((safe P names outputs opened held t between seen may).stopped after
     (subst (λ o. Stops (replacing names opened held outputs) o after) reads.is stops))
+
+-- ---- the call
+
+-- a folder that couldn't be changed for want of memory wasn't touched
+pub early_leave : (end : TreeEnd) (r : Result (Unit {0}) TreeEnd) (before between after : Option TreeState) → r ≡ Err end → (r ≡ Err tree_end.NoMemory → after ≡ between)
+    → status_of end ≡ Status.NoMemory → OnlyReads before between → OnlyReads before after
+early_leave tree_end.Failed r before between after is same ends reads = cc
+early_leave tree_end.NoMemory r before between after is same ends reads = subst (λ o. OnlyReads before o) (sym (same is)) reads
+
+-- and one that couldn't be changed for a call that failed stopped there
+pub stops_then : (names : Names) (outputs : List File) (opened : Bool) (held : List (List ℕ)) (end : TreeEnd) (r : Result (Unit {0}) TreeEnd) (before between after : Option TreeState) → r ≡ Err end
+    → (r ≡ Err tree_end.Failed → Stops (replacing names opened held outputs) between after) → status_of end ≡ Status.TreeFault → IsSeen names opened held before between → StopsReplacing names outputs before after
+stops_then names outputs opened held tree_end.Failed r before between after is stops ends seen = changing between opened held seen (stops is)
+stops_then names outputs opened held tree_end.NoMemory r before between after is stops ends seen = cc
+
+folder_stays : (Q : Folder → Type 0) (before after : Option TreeState) → OnlyReads before after → IfSome after (λ t. Q t.folder) → IfSome before (λ t. Q t.folder)
+folder_stays Q None after reads so = tt
+folder_stays Q (Some t) after reads so = subst (λ o. IfSome o (λ u. Q u.folder)) reads.is so
+
+gate_seen : (observed : Option TreeState) (gate : List ℕ) (found : Option (List ℕ)) (opened : Bool) → IfSome observed (λ t. found ≡ get t.folder gate) → opened ≡ is_open found → IfSome observed (λ t. is_open (get t.folder gate) ≡ opened)
+gate_seen None gate found opened is reads = tt
+gate_seen (Some t) gate found opened is reads = ap is_open (sym is) ∙ sym reads
+
+-- what was seen of a folder whose gate and names were read
+pub names_seen : (names : Names) (opened : Bool) (held : List (List ℕ)) (found : Option (List ℕ)) (before gated between : Option TreeState) → ReadsPass before gated → ReadsPass gated between
+    → IfSome before (λ t. found ≡ get t.folder names.gate) → opened ≡ is_open found → IfSome gated (λ t. held ≡ keys t.folder) → IsSeen names opened held before between
+names_seen names opened held found before gated between one two is reads all = record {
+  reads = pass_then before gated between one two;
+  gate = gate_seen before names.gate found opened is reads;
+  all_names = folder_stays (λ folder. held ≡ keys folder) before gated one.reads all;
+}

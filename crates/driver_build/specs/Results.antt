@@ -25,15 +25,18 @@ abbrev pub listed_texts : Option FileTexts → List FileTexts
 listed_texts None = []
 listed_texts (Some texts) = texts ∷ []
 
--- the texts of the files without errors, in order
-abbrev pub texts_of : List FileResult → List FileTexts
-texts_of files = flat_map (λ file. listed_texts (texts_in file)) files
+abbrev pub object_in : FileResult → List (List ℕ)
+object_in file = map (λ (texts : FileTexts). texts.object) (listed_texts (texts_in file))
 
+abbrev pub partial_in : FileResult → List (List ℕ)
+partial_in file = map (λ (texts : FileTexts). texts.partial) (listed_texts (texts_in file))
+
+-- the objects and the partial texts of the files without errors, in order
 abbrev pub objects_of : List FileResult → List (List ℕ)
-objects_of files = map (λ (texts : FileTexts). texts.object) (texts_of files)
+objects_of files = flat_map object_in files
 
 abbrev pub partials_of : List FileResult → List (List ℕ)
-partials_of files = map (λ (texts : FileTexts). texts.partial) (texts_of files)
+partials_of files = flat_map partial_in files
 
 -- the graphs of compiled files, with the prints themselves; files with errors have theirs
 abbrev pub graphs_of : List CompiledFile → List FileGraph

@@ -5,6 +5,8 @@
 //! may be trusted (`specs/Replacing.antt`).
 #![tactic(auto)]
 
+mod asking;
+mod building;
 mod file_outputs;
 mod laws;
 mod module_outputs;
@@ -12,6 +14,8 @@ mod outputs_of_build;
 mod replacing;
 mod results;
 
+pub use asking::asked_of;
+pub use building::{Made, make_outputs};
 pub use laws::clean_folder_is_one;
 pub use outputs_of_build::outputs;
 pub use replacing::replace_folder;

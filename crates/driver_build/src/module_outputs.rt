@@ -1,7 +1,7 @@
 //! The outputs of a module: the merged module, the image, the priors and the record.
 
-ghost use Rattle.std.specs.Prelude.{◌≡◌, All, IsTrue, IfOk, IfSome, IsUtf8};
-ghost use Rattle.std.specs.List.{list_all};
+ghost use Rattle.std.specs.Prelude.{◌≡◌, ◌++◌, [], ◌∷◌, length, IsTrue, IfOk, IfSome, IsUtf8, OnOk};
+ghost use Rattle.std.specs.List.{AllByRecursion, list_all};
 ghost use Rattle.module_merge.specs.Image.{IsImage};
 ghost use Rattle.module_merge.specs.Module.{IsMergedModule, is_partial};
 ghost use Rattle.module_merge.specs.Object.{is_object};
@@ -12,16 +12,51 @@ ghost use Rattle.driver_build.specs.Outputs as spec;
 ghost use Rattle.driver_build.specs.Results as results;
 
 use crate::file_outputs::file_named;
-use crate::results::{are_clean, is_clean, texts_in};
+use crate::results::{are_clean, is_clean};
 use crate::{Asked, FileResult};
 use build_record::{BuildRecord, FileState};
 use dep_key::{FileGraph, NoMemory, Text};
 use disk_commit::File;
 use drv_outside::Entry;
+use module_compile::Outcome;
 use module_merge::{image, is_object, is_partial, merged_module};
 use sqlite_items::Items;
 use std::alloc::Global;
 use swiftdeps::is_writable;
+
+/// Pushes a copy of a text.
+fn push_copy(texts: &mut Vec<Text>, text: &Text) -> Result<(), NoMemory>
+    ensures { OnOk result (texts.new.items ≡ texts.old.items ++ text.now ∷ []) }
+{
+    texts.push(text.clone()?)?;
+    Ok(())
+}
+
+/// Pushes the object of a file, where it has no errors.
+fn push_object(objects: &mut Vec<Text>, file: &FileResult) -> Result<(), NoMemory>
+    ensures { OnOk result (objects.new.items ≡ objects.old.items ++ results.object_in file.now) }
+{
+    match file {
+        FileResult::Compiled(compiled) => match &compiled.outcome {
+            Outcome::Texts(texts) => push_copy(objects, &texts.object),
+            Outcome::Errors(_) => Ok(()),
+        },
+        FileResult::Kept(texts) => push_copy(objects, &texts.object),
+    }
+}
+
+/// Pushes the partial text of a file, where it has no errors.
+fn push_partial(partials: &mut Vec<Text>, file: &FileResult) -> Result<(), NoMemory>
+    ensures { OnOk result (partials.new.items ≡ partials.old.items ++ results.partial_in file.now) }
+{
+    match file {
+        FileResult::Compiled(compiled) => match &compiled.outcome {
+            Outcome::Texts(texts) => push_copy(partials, &texts.partial),
+            Outcome::Errors(_) => Ok(()),
+        },
+        FileResult::Kept(texts) => push_copy(partials, &texts.partial),
+    }
+}
 
 /// The objects of files without errors, in order.
 fn objects_of(alloc: Global, files: &[FileResult]) -> Result<Vec<Text>, NoMemory>
@@ -29,9 +64,7 @@ fn objects_of(alloc: Global, files: &[FileResult]) -> Result<Vec<Text>, NoMemory
 {
     let mut objects = Vec::new(alloc);
     for file in files {
-        if let Some(texts) = texts_in(file) {
-            objects.push(texts.object.clone()?)?;
-        }
+        push_object(&mut objects, file)?;
     }
     Ok(objects)
 }
@@ -42,40 +75,28 @@ fn partials_of(alloc: Global, files: &[FileResult]) -> Result<Vec<Text>, NoMemor
 {
     let mut partials = Vec::new(alloc);
     for file in files {
-        if let Some(texts) = texts_in(file) {
-            partials.push(texts.partial.clone()?)?;
-        }
+        push_partial(&mut partials, file)?;
     }
     Ok(partials)
 }
 
 /// Whether each text is a partial one.
 fn are_partials(partials: &[Text]) -> bool
-    ensures { IsTrue result → All (λ partial. IsTrue (is_partial partial)) partials.now }
+    ensures { result ≡ list_all is_partial partials.now }
 {
-    for partial in partials {
-        if !is_partial(partial.as_slice()) {
-            return false;
-        }
-    }
-    true
+    partials.iter().all(|partial| is_partial(partial.as_slice()))
 }
 
 /// Whether each text is an object.
 fn are_objects(objects: &[Text]) -> bool
-    ensures { IsTrue result → All (λ object. IsTrue (is_object object)) objects.now }
+    ensures { result ≡ list_all is_object objects.now }
 {
-    for object in objects {
-        if !is_object(object.as_slice()) {
-            return false;
-        }
-    }
-    true
+    objects.iter().all(|object| is_object(object.as_slice()))
 }
 
 /// Whether each graph has a spelling.
 fn are_writable(graphs: &[FileGraph]) -> bool
-    ensures { IsTrue result → All IsWritable graphs.now }
+    ensures { IsTrue result → AllByRecursion IsWritable graphs.now }
 {
     for graph in graphs {
         if !is_writable(graph) {
@@ -212,11 +233,15 @@ fn file_states(
     entries: &[Entry],
     files: &[FileResult],
 ) -> Result<Items<FileState>, NoMemory>
-    ensures { IfOk result (λ states. states ≡ spec.file_states entries.now files.now) }
+    requires each { length files.now ≡ length entries.now }
+    ensures states { IfOk result (λ states. states ≡ spec.file_states entries.now files.now) }
 {
     let mut states = Items::new(alloc);
-    for (entry, file) in entries.iter().zip(files.iter()) {
-        states.push(file_state(entry, file)?)?;
+    let mut place = 0usize;
+    for file in files {
+        let state = file_state(&entries[place], file)?;
+        states.push(state)?;
+        place += 1;
     }
     Ok(states)
 }
@@ -240,7 +265,8 @@ fn build_record_of(
     asked: &Asked,
     files: &[FileResult],
 ) -> Result<BuildRecord, NoMemory>
-    ensures { IfOk result (λ made. made ≡ spec.build_record_of (wanted asked.now) files.now) }
+    requires each { length files.now ≡ length asked.now.listed.items }
+    ensures made { IfOk result (λ made. made ≡ spec.build_record_of (wanted asked.now) files.now) }
 {
     let module = asked.module.clone()?;
     let map = copied_map(asked)?;
@@ -256,7 +282,8 @@ pub fn record_file(
 ) -> Result<File, NoMemory>
     requires module { IsUtf8 asked.now.«module» }
     requires map { IfSome asked.now.map IsUtf8 }
-    ensures { IfOk result (λ made. made ≡ spec.record_file (wanted asked.now) files.now) }
+    requires each { length files.now ≡ length asked.now.listed.items }
+    ensures made { IfOk result (λ made. made ≡ spec.record_file (wanted asked.now) files.now) }
 {
     let made = build_record_of(alloc, asked, files)?;
     let bytes = build_record::encode(alloc, &made)?;

@@ -28,6 +28,7 @@ pub fn outputs(
     requires module { IsUtf8 asked.now.«module» }
     requires map { IfSome asked.now.map IsUtf8 }
     requires each { length files.items ≡ length asked.now.names.files }
+    requires listed { length files.items ≡ length asked.now.listed.items }
     requires ascending { AreAscendingTexts (paths_of graphs.now) }
     ensures outputs { IfOk result (λ made. AreOutputs (wanted asked.now) files.items graphs.now made.items) }
 {

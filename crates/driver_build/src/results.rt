@@ -1,6 +1,6 @@
 //! What a build has in hand of each file.
 
-ghost use Rattle.std.specs.Prelude.{◌≡◌, map, IfOk, option_map};
+ghost use Rattle.std.specs.Prelude.{◌≡◌, map, IfOk};
 ghost use Rattle.std.specs.List.{list_all};
 ghost use Rattle.dep_key.specs.Digests.{digested};
 ghost use Rattle.driver_build.specs.Results as spec;
@@ -18,19 +18,6 @@ pub enum FileResult {
 
     /// It was skipped: these texts stand in the build folder. It has no errors.
     Kept(FileTexts),
-}
-
-/// The texts of a file, where it has no errors.
-pub fn texts_in(file: &FileResult) -> Option<&FileTexts>
-    ensures { option_map (λ texts. texts.now) result ≡ spec.texts_in file.now }
-{
-    match file {
-        FileResult::Compiled(compiled) => match &compiled.outcome {
-            Outcome::Texts(texts) => Some(texts),
-            Outcome::Errors(_) => None,
-        },
-        FileResult::Kept(texts) => Some(texts),
-    }
 }
 
 /// Whether a file has no errors.

@@ -3,3 +3,4 @@ pub mod PathLemmas
 pub mod PathOrderLemmas
 pub mod MergeLemmas
 pub mod MissingLemmas
+pub mod OneOrderLemmas

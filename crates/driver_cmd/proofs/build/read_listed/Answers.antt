@@ -1,0 +1,1 @@
+use Rattle.driver_cmd.proofs.build.read_listed.Goals as goal
