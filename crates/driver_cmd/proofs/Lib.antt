@@ -1,3 +1,4 @@
 pub mod ProjectLemmas
 pub mod CleanLemmas
 pub mod DrivenLemmas
+pub mod CommandLemmas

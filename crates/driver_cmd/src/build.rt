@@ -65,10 +65,7 @@ fn read_project<T: Tree>(alloc: Global, tree: &mut T) -> Result<Project, Status>
 {
     match list_sources(alloc, tree)? {
         Listing::Refused(errors) => Ok(Project::Refused(errors)),
-        Listing::Listed(entries) => {
-            let project = read_listed(alloc, tree, entries)?;
-            Ok(project)
-        }
+        Listing::Listed(entries) => read_listed(alloc, tree, entries),
     }
 }
 
@@ -90,10 +87,15 @@ fn build_module<T: Tree>(
     ensures tree_fault { IfErr result (λ status. status ≡ Status.TreeFault → CountRose (T.faults tree.old) (T.faults tree.new)) }
     ensures ends { IfErr result (λ status. (status ≡ Status.TreeFault) ⊎ (status ≡ Status.NoMemory)) }
 {
-    let made = make_outputs(alloc, name, entries, trees)?;
-    replace_folder(alloc, tree, &made.names, &made.files)?;
-    let Made { lines, .. } = made;
-    Ok(lines)
+    let Made {
+        names,
+        files,
+        lines,
+    } = make_outputs(alloc, name, entries, trees)?;
+    match replace_folder(alloc, tree, &names, &files) {
+        Ok(()) => Ok(lines),
+        Err(status) => Err(status),
+    }
 }
 
 // Leaves the clean build of the sources in the build folder, and answers with its error lines.
@@ -112,10 +114,7 @@ fn build_project<T: Tree>(alloc: Global, tree: &mut T, name: &str) -> Result<Vec
             let printed = lines(alloc, &errors)?;
             Ok(printed.into_vec())
         }
-        Project::Read(entries, trees) => {
-            let lines = build_module(alloc, tree, name, entries, trees)?;
-            Ok(lines)
-        }
+        Project::Read(entries, trees) => build_module(alloc, tree, name, entries, trees),
     }
 }
 

@@ -19,7 +19,7 @@ returns-clause-written c = record {
       c.in_ok-writer.ensures.written c.in_ok-put_rec.ensures.ok
       c.in_ok-put_identifiers.ensures.written c.in_ok-put_files.ensures.written
       c.in_ok-leave.ensures.ok;
-  bits = ap bits_of c.into_vec.ensures ∙ c.into_bytes.ensures.bits;
+  bits = ap bits_of c.into_vec-stream.ensures ∙ c.into_bytes.ensures.bits;
 }
 
 pub returns-clause-stands : goal.returns-clause-stands
@@ -38,6 +38,6 @@ returns-clause-stands c =
       names = names;
       are_names = c.in_ok-names.ensures;
       items = all.0;
-      read = ap items_in c.into_vec.ensures ∙ c.into_bytes.ensures.read_back all.0 all.1;
+      read = ap items_in c.into_vec-stream.ensures ∙ c.into_bytes.ensures.read_back all.0 all.1;
       spelled = all.2;
     }
