@@ -146,3 +146,12 @@ may_replace P wanted files graphs outputs t distinct are trusts changed trusted 
       changed = changed;
       trusted = trusted;
     }
+
+-- What is so of all names is so of the gate's and of the record's.
+pub gate_has_name : (P : List ℕ → Type 0) (names : Names) → All P (all_names names) → P names.gate
+gate_has_name P names all = (second (List ℕ) P (output_names names) (names.gate ∷ []) (subst (λ ns. AllByRecursion P ns) (split names) (recursion_from_All P (all_names names) all))).0
+
+pub record_has_name : (P : List ℕ → Type 0) (names : Names) → All P (all_names names) → P names.build_record
+record_has_name P names all =
+    (second (List ℕ) P (flat_map names_of_file names.files) (names.«module» ∷ names.image ∷ names.priors ∷ names.build_record ∷ [])
+    (first (List ℕ) P (output_names names) (names.gate ∷ []) (subst (λ ns. AllByRecursion P ns) (split names) (recursion_from_All P (all_names names) all)))).1.1.1.0

@@ -1,6 +1,9 @@
 -- What a build leaves is the clean build, and a crash at any moment of it does no harm.
-use Rattle.std.proofs.Common.{◌≡◌, ℕ, List, [], Option, Some, None, refl, sym, ap, subst, ◌∙◌, inr}
-use Rattle.std.specs.Prelude.{◌≢◌, IfSome}
+use Rattle.std.proofs.Common.{◌≡◌, ℕ, List, [], Option, Some, None, refl, sym, ap, subst, ◌∙◌, inl, inr}
+use Rattle.std.specs.Prelude.{◌≢◌, ◌⊎◌, IfSome, IfOk, IfErr, Result, Ok, Err}
+use Rattle.std.specs.declared.alloc.Global.{Global}
+use Rattle.std.specs.declared.vec.Vec.{Vec}
+use Rattle.drv_outside.specs.declared.status.Status.{Status}
 use Rattle.std.specs.FinMap.{empty}
 use Rattle.diag_text.specs.Line.{lines_of}
 use Rattle.diag_text.specs.declared.diag.Diag.{Diag}
@@ -11,7 +14,7 @@ use Rattle.disk_images.proofs.MomentsLemmas.{reads_leave}
 use Rattle.drv_outside.specs.Disk.{Folder, Durably}
 use Rattle.drv_outside.specs.IfObserved.{IfObserved}
 use Rattle.drv_outside.specs.Moments.{LeavesOnly}
-use Rattle.drv_outside.specs.Reads.{OnlyReads, all_listed}
+use Rattle.drv_outside.specs.Reads.{OnlyReads, all_listed, reads_then}
 use Rattle.drv_outside.specs.TreeState.{TreeState, disk_of, entries_of}
 use Rattle.drv_outside.specs.declared.types.Entry.{Entry}
 use Rattle.drv_outside.specs.declared.types.Source.{Source}
@@ -131,6 +134,15 @@ stays_stopped name (Some t) between after entries trees reads have stops = λ bo
     behind_reads P t reads.calls reads.failed after (read_safely P t between reads trusted)
     (stopped_safely P (wanted_of name entries).names outputs s after
     (may_build name s entries trees outputs have.0 have.1 (subst (λ ns. AreDistinct (all_names ns)) stops.are.names stops.are.distinct) stops.are.files booked trusted) stopped)
+
+-- A build of a module that was read is at its end, whatever it answers.
+pub stays_ended : (name : List ℕ) (before between after : Option TreeState) (entries : List Entry) (trees : List FileTree) (r : Result (Vec ℕ Global) Status) → OnlyReads before between
+    → IfSome before (λ t. (entries ≡ entries_of t.sources) × HaveTrees t.sources trees) → IfOk r (λ lines. Builds name entries trees lines.items between after)
+    → IfErr r (λ status. status ≡ Status.TreeFault → StopsBuilding name entries trees between after) → IfErr r (λ status. status ≡ Status.NoMemory → OnlyReads between after)
+    → IfErr r (λ status. (status ≡ Status.TreeFault) ⊎ (status ≡ Status.NoMemory)) → StaysTrusted name before after
+stays_ended name before between after entries trees (Ok lines) reads have builds stops early ends = stays_built name before between after entries trees lines.items reads have builds
+stays_ended name before between after entries trees (Err status) reads have builds stops early (inl is) = stays_stopped name before between after entries trees reads have (stops is)
+stays_ended name before between after entries trees (Err status) reads have builds stops early (inr is) = stays_reading name before after (reads_then before between after reads (early is))
 
 -- A module has one clean build.
 pub one_clean : (name : List ℕ) (sources : List Source) (one two : Clean) → IsClean name sources one → IsClean name sources two → one ≡ two

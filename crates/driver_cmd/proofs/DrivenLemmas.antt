@@ -71,9 +71,9 @@ put_some lines name (Some t) (Some u) had now is l = record { clean = l.clean; i
 
 -- Where the words ask for a module, what is so of its name is so of the one that is asked for.
 pub for_asked : (words : List (List ℕ)) (name : List ℕ) (P : List ℕ → Type 0) → request_of words ≡ Ok name → P name → IfAsked words P
-for_asked words name P asked so = λ other also. subst P (let same : Ok name ≡ Ok other = sym asked ∙ also in ok_is name other same) so
+for_asked words name P asked so = λ other also. subst P (let same : ◌≡◌ {A = Result (List ℕ) ℕ} (Ok name) (Ok other) = sym asked ∙ also in ok_is name other same) so
   where
-    ok_is : (a b : List ℕ) → Ok {E = ℕ} a ≡ Ok b → a ≡ b
+    ok_is : (a b : List ℕ) → ◌≡◌ {A = Result (List ℕ) ℕ} (Ok a) (Ok b) → a ≡ b
     ok_is a b e = cc
 
 pub is_accepted : (words : List (List ℕ)) (name : List ℕ) → request_of words ≡ Ok name → IsOk (request_of words)
@@ -219,7 +219,7 @@ blames words at is a = (
 )
 
 never_asked : (words : List (List ℕ)) (name : List ℕ) (at : ℕ) → request_of words ≡ Err at → request_of words ≡ Ok name → ⊥
-never_asked words name at is asked = let both : Err {T = List ℕ} at ≡ Ok name = sym is ∙ asked in cc
+never_asked words name at is asked = let both : ◌≡◌ {A = Result (List ℕ) ℕ} (Err at) (Ok name) = sym is ∙ asked in cc
 
 -- The words are no accepted command: no call was made.
 pub driven_refused : (words : List (List ℕ)) (at : ℕ) (before : Option TreeState) (tree : ℕ) (had : Option (List ℕ)) (sink : ℕ) → request_of words ≡ Err at

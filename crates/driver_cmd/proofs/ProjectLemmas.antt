@@ -1,10 +1,13 @@
 -- What a project is, from what was read of it.
 use Rattle.std.proofs.Common.{◌≡◌, ℕ, List, [], Option, Some, None, sym, subst}
-use Rattle.std.specs.Prelude.{IfSome}
+use Rattle.std.specs.Prelude.{IfSome, IfOk, IfErr, OnOk, Result, Ok, Err}
 use Rattle.std.specs.declared.alloc.Global.{Global}
 use Rattle.std.specs.declared.vec.Vec.{Vec}
 use Rattle.diag_text.specs.declared.diag.Diag.{Diag}
-use Rattle.drv_outside.specs.Reads.{OnlyReads}
+use Rattle.drv_outside.specs.Reads.{OnlyReads, reads_then}
+use Rattle.drv_outside.specs.declared.status.Status.{Status}
+use Rattle.project_sources.specs.Calls.{ReadsPass}
+use Rattle.project_sources.proofs.CallLemmas.{pass_then}
 use Rattle.drv_outside.specs.TreeState.{TreeState}
 use Rattle.drv_outside.specs.declared.types.Entry.{Entry}
 use Rattle.drv_outside.specs.declared.types.Source.{Source}
@@ -43,3 +46,19 @@ pub read_behind : (before between : Option TreeState) (entries : Vec Entry Globa
 read_behind before between entries project reads listed so =
     both_so before (λ t. IsListed t.sources (listing.Listed entries)) (λ t. IsReadFrom t.sources project) listed
     (sources_stay (λ sources. IsListed sources (listing.Listed entries) → IsReadFrom sources project) before between reads so)
+
+-- calls that pass behind others, where a call has answered
+pub passed_behind : {X E : Type 0} (r : Result X E) (before between after : Option TreeState) → ReadsPass before between → OnOk r (ReadsPass between after) → OnOk r (ReadsPass before after)
+passed_behind (Ok x) before between after one two = pass_then before between after one two
+passed_behind (Err e) before between after one two = tt
+
+-- and calls that read behind others, where it ended early
+pub early_behind : {X : Type 0} (r : Result X Status) (before between after : Option TreeState) → OnlyReads before between → IfErr r (λ status. status ≡ Status.NoMemory → OnlyReads between after)
+    → IfErr r (λ status. status ≡ Status.NoMemory → OnlyReads before after)
+early_behind (Ok x) before between after one two = tt
+early_behind (Err e) before between after one two = λ early. reads_then before between after one (two early)
+
+-- what an answer is, it is said of it
+pub for_ok : {X E : Type 0} (r : Result X E) (P Q : X → Type 0) → IfOk r P → ((x : X) → P x → Q x) → IfOk r Q
+for_ok (Ok x) P Q so f = f x so
+for_ok (Err e) P Q so f = tt

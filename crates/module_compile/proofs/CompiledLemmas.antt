@@ -1,10 +1,19 @@
 -- What stands in a compiled file.
-use Rattle.std.proofs.Common.{◌≡◌, ℕ, List, [], ◌∷◌, map, refl, ap}
+use Rattle.std.proofs.Common.{◌≡◌, ◌∙◌, ℕ, List, [], ◌∷◌, map, refl, ap, Option, Some, option_map}
+use Rattle.dep_key.specs.declared.key.Key.{Key}
+use Rattle.type_rules.specs.declared.meaning.Meaning.{Meaning}
+use Rattle.typed_code.specs.declared.units.Unit.{Unit as CodeUnit}
+use Rattle.expr_check.specs.declared.line.Line.{Line}
+use Rattle.body_check.specs.Files.{file_errors, file_units, file_uses}
+use Rattle.file_nodes.specs.Graphs.{graph_of}
+use Rattle.iface_print.specs.Partials.{partial_text}
+use Rattle.object_emit.specs.Objects.{object_text}
+use Rattle.module_compile.specs.declared.compiled.FileTexts.{FileTexts}
 use Rattle.dep_key.specs.declared.graph.FileGraph.{FileGraph}
 use Rattle.dep_key.specs.Digests.{digested}
 use Rattle.swift_ast.specs.declared.declarations.FileTree.{FileTree}
 use Rattle.type_infer.specs.Meanings.{meaning_in}
-use Rattle.module_compile.specs.Compiled.{compiled_in, graph_with}
+use Rattle.module_compile.specs.Compiled.{compiled_in, compiled_with, graph_with, outcome_as, texts_as}
 use Rattle.module_compile.specs.ModuleGraph.{recorded_graph}
 use Rattle.module_compile.specs.declared.compiled.CompiledFile.{CompiledFile}
 
@@ -24,3 +33,24 @@ graphs_are files (file ∷ listed) = λ i. digested (graph_is files file i) ∷ 
 -- the graphs of compiled files, digested, are those that priors record
 pub recorded_are : (files : List FileTree) → map digested (map (λ (c : CompiledFile). c.graph) (map (compiled_in files) files)) ≡ recorded_graph files
 recorded_are files = graphs_are files files
+
+some_is : {A : Type 0} (a b : A) → Some a ≡ Some b → a ≡ b
+some_is a b e = cc
+
+-- the texts of a file that a module has
+pub texts_are : (meanings : Key → Meaning) (path : List ℕ) (units : List CodeUnit) (found : Option FileTree) (file : FileTree) (texts : FileTexts) → found ≡ Some file → texts.object ≡ object_text meanings path units
+    → Some texts.partial ≡ option_map (partial_text meanings) found → texts ≡ texts_as meanings path units file
+texts_are meanings path units found file texts here object partial =
+    let same : texts.partial ≡ partial_text meanings file = some_is texts.partial (partial_text meanings file) (partial ∙ ap (option_map (partial_text meanings)) here) in
+    (λ i. record { object = object i; partial = same i })
+
+-- a file that was checked, compiled
+pub compiled_is : (meanings : Key → Meaning) (file : FileTree) (found : Option FileTree) (made : CompiledFile) (path : List ℕ) (errors : List Line) (units : List CodeUnit) (uses : List Key)
+    → found ≡ Some file → path ≡ file.path → errors ≡ file_errors meanings file → units ≡ file_units meanings file → uses ≡ file_uses meanings file
+    → made.outcome ≡ outcome_as meanings path errors units file → Some made.graph ≡ option_map (graph_of meanings uses) found → made ≡ compiled_with meanings file
+compiled_is meanings file found made path errors units uses here at err un us outcome graph =
+    let graph_is : made.graph ≡ graph_of meanings uses file = some_is made.graph (graph_of meanings uses file) (graph ∙ ap (option_map (graph_of meanings uses)) here) in
+    (λ i. record {
+      outcome = (outcome ∙ (λ j. outcome_as meanings (at j) (err j) (un j) file)) i;
+      graph = (graph_is ∙ (λ j. graph_of meanings (us j) file)) i;
+    })

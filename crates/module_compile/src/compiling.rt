@@ -4,6 +4,9 @@ ghost use Rattle.std.specs.Prelude.{◌≡◌, Some, map, All, IfOk};
 ghost use Rattle.std.specs.List.{slice_get};
 ghost use Rattle.std.specs.Option.{option_map};
 ghost use Rattle.dep_key.specs.GraphOrder.{AreInOrder};
+ghost use Rattle.iface_print.specs.Partials.{partial_text};
+ghost use Rattle.object_emit.specs.Objects.{object_text};
+ghost use Rattle.swift_ast.specs.declared.declarations.FileTree.{FileTree};
 ghost use Rattle.module_compile.specs.Compiled as spec;
 ghost use Rattle.module_compile.specs.declared.compiled.CompiledFile.{CompiledFile};
 
@@ -57,14 +60,15 @@ fn texts<A: Answers>(
     path: &Path,
     units: &[Unit],
 ) -> Result<FileTexts, NoMemory>
-    ensures { IfOk result (λ texts. Some texts ≡ option_map (spec.texts_as (A.meanings answers.now) path.now units.now) (slice_get index.now number)) }
+    ensures object { IfOk result (λ texts. texts.object ≡ object_text (A.meanings answers.now) path.now units.now) }
+    ensures partial { IfOk result (λ texts. Some texts.partial ≡ option_map (partial_text (A.meanings answers.now)) (slice_get index.now number)) }
 {
     let object = object(alloc, answers, path, units)?;
     let partial = partial_text(alloc, answers, index, number)?;
     Ok(FileTexts { object, partial })
 }
 
-/// What the file of a number comes to that was checked.
+/// What a file of this number comes to that was checked.
 fn outcome<A: Answers>(
     alloc: Global,
     answers: &A,
@@ -74,7 +78,7 @@ fn outcome<A: Answers>(
     errors: BTreeSet<Line>,
     units: &[Unit],
 ) -> Result<Outcome, NoMemory>
-    ensures { IfOk result (λ outcome. Some outcome ≡ option_map (spec.outcome_as (A.meanings answers.now) path.now errors.keys units.now) (slice_get index.now number)) }
+    ensures { IfOk result (λ outcome. (file : FileTree) → slice_get index.now number ≡ Some file → outcome ≡ spec.outcome_as (A.meanings answers.now) path.now errors.keys units.now file) }
 {
     if errors.is_empty() {
         let texts = texts(alloc, answers, index, number, path, units)?;
@@ -97,10 +101,14 @@ fn compiled<A: Answers>(
     ensures ordered { IfOk result (λ made. AreInOrder made.graph.nodes) }
 {
     let path = Path::from_str(alloc, file.path.as_str())?;
-    let checked = check_file(alloc, answers, file)?;
-    let graph = graph(alloc, answers, index, number, &checked.uses)?;
-    let units = checked.units.as_slice();
-    let outcome = outcome(alloc, answers, index, number, &path, checked.errors, units)?;
+    let CheckedFile {
+        errors,
+        units,
+        uses,
+    } = check_file(alloc, answers, file)?;
+    let graph = graph(alloc, answers, index, number, &uses)?;
+    let units = units.as_slice();
+    let outcome = outcome(alloc, answers, index, number, &path, errors, units)?;
     Ok(CompiledFile { outcome, graph })
 }
 
