@@ -80,20 +80,22 @@ param-word p h w = label-word p.name p.label (p.colon ∷ type_form.tokens p.typ
 more-words : (ps : List (Leaf × Param)) → AreGood (in_row (both (word T.Comma) param_form) ps) → all_well_formed (both (word T.Comma) param_form) ps ≡ true → AllByRecursion IsLabelled (map (λ p. p.1) ps)
 more-words [] h w = tt
 more-words (p ∷ ps) h w =
-    let parts = and_parts (on (is T.Comma) p.0 && param_form.is_well_formed p.1) (all_well_formed (both (word T.Comma) param_form) ps) w in
-    (param-word p.1 (good-left (param_form.tokens p.1) (in_row (both (word T.Comma) param_form) ps) h.1) (and_parts (on (is T.Comma) p.0) (param_form.is_well_formed p.1) parts.0).1,
-    more-words ps (good-right (param_form.tokens p.1) (in_row (both (word T.Comma) param_form) ps) h.1) parts.1)
+    let parts = and_parts (on (is T.Comma) p.0 && param_form.is_well_formed p.1) (all_well_formed (both (word T.Comma) param_form) ps) w in (
+      param-word p.1 (good-left (param_form.tokens p.1) (in_row (both (word T.Comma) param_form) ps) h.1) (and_parts (on (is T.Comma) p.0) (param_form.is_well_formed p.1) parts.0).1,
+      more-words ps (good-right (param_form.tokens p.1) (in_row (both (word T.Comma) param_form) ps) h.1) parts.1,
+    )
 
 params-words : (ps : Option (Param × List (Leaf × Param))) → AreGood (params_rule.tokens ps) → params_rule.is_well_formed ps ≡ true → AllByRecursion IsLabelled (params_in ps)
 params-words None h w = tt
 params-words (Some l) h w =
-    let parts = and_parts (param_form.is_well_formed l.0) (all_well_formed (both (word T.Comma) param_form) l.1) w in
-    (param-word l.0 (good-left (param_form.tokens l.0) (in_row (both (word T.Comma) param_form) l.1) h) parts.0,
-    more-words l.1 (good-right (param_form.tokens l.0) (in_row (both (word T.Comma) param_form) l.1) h) parts.1)
+    let parts = and_parts (param_form.is_well_formed l.0) (all_well_formed (both (word T.Comma) param_form) l.1) w in (
+      param-word l.0 (good-left (param_form.tokens l.0) (in_row (both (word T.Comma) param_form) l.1) h) parts.0,
+      more-words l.1 (good-right (param_form.tokens l.0) (in_row (both (word T.Comma) param_form) l.1) h) parts.1,
+    )
 
--- What stands behind a keyword is a name.
-named-behind : (keyword name : Leaf) (ts : List Leaf) (test more : Bool) → AreGood (keyword ∷ name ∷ ts) → (test && (on (is T.Identifier) name && more)) ≡ true → is_name name.text ≡ true
-named-behind keyword name ts test more h w = h.1.0.name (and_parts (on (is T.Identifier) name) more (and_parts test (on (is T.Identifier) name && more) w).1).0
+-- the name behind a keyword is an identifier
+second : (a b c : Bool) → (a && (b && c)) ≡ true → b ≡ true
+second a b c w = (and_parts b c (and_parts a (b && c) w).1).0
 
 -- A declaration's own name is a name, and its labels are words.
 abbrev pub AreNames : List ℕ → Item → Type 0
@@ -110,11 +112,11 @@ struct-member-names (member.Stored x) h w =
     let name = (and_parts (specifier_form.is_well_formed x.specifier) _ w).1 in
     let good : AreGood (x.name ∷ stored_value_form.tokens x.value) = good-right (specifier_form.tokens x.specifier) (x.name ∷ stored_value_form.tokens x.value) h in
     (good.0.name (and_parts (on (is T.Identifier) x.name) _ name).0, tt)
-struct-member-names (member.Computed x) h w = (named-behind x.keyword x.name _ _ _ h w, tt)
+struct-member-names (member.Computed x) h w = (h.1.0.name (second (on (is T.Var) x.keyword) (on (is T.Identifier) x.name) _ w), tt)
 struct-member-names (member.Func x) h w = func-names x h w
 
 extension-member-names : (x : ExtensionMember) → AreGood (extension_member_form.tokens x) → extension_member_form.is_well_formed x ≡ true → AreNames (extension_member_name x) (extension_member_item x)
-extension-member-names (extended.Computed x) h w = (named-behind x.keyword x.name _ _ _ h w, tt)
+extension-member-names (extended.Computed x) h w = (h.1.0.name (second (on (is T.Var) x.keyword) (on (is T.Identifier) x.name) _ w), tt)
 extension-member-names (extended.Func x) h w = func-names x h w
 
 -- what stands behind its access
@@ -164,22 +166,22 @@ named-written path access (named.Func x) h w d m = elim m [
   | inr n ↦ absurd n
 ]
 named-written path access (named.Alias x) h w d m = elim m [
-  | inl e ↦ subst IsWritten e (written _ (named-behind x.keyword x.name _ _ _ h w, tt))
+  | inl e ↦ subst IsWritten e (written _ (h.1.0.name (second (on (is T.Typealias) x.keyword) (on (is T.Identifier) x.name) _ w), tt))
   | inr n ↦ absurd n
 ]
 named-written path access (named.Struct x) h w d m = elim m [
-  | inl e ↦ subst IsWritten e (written _ (named-behind x.keyword x.name _ _ _ h w, tt))
+  | inl e ↦ subst IsWritten e (written _ (h.1.0.name (second (on (is T.Struct) x.keyword) (on (is T.Identifier) x.name) _ w), tt))
   | inr n ↦ (let inside = braced (on (on_new_line begins_struct_member)) (with_access struct_member_form) x.keyword x.name x.opening x.closing x.members
-        (on (is T.Struct) x.keyword) (on (is T.Identifier) x.name) (on (is T.LeftBrace) x.opening) (on (is T.RightBrace) x.closing) h w in
+      (on (is T.Struct) x.keyword) (on (is T.Identifier) x.name) (on (is T.LeftBrace) x.opening) (on (is T.RightBrace) x.closing) h w in
       struct-members-written path (key_name path (is_private access) x.name.text) x.members inside.0 inside.1 d n)
 ]
 
 decl-written : (path : List ℕ) (own : List (List ℕ)) (x : Decl) → AreGood (decl_form.tokens x) → decl_form.is_well_formed x ≡ true → (d : Declaration) → Among (decl_declarations path own x) d → IsWritten d
 decl-written path own (Named access x) h w d m = let read = behind-access named_form access x h w in named-written path access x read.0 read.1 d m
 decl-written path own (Extended x) h w d m = elim m [
-  | inl e ↦ subst IsWritten e (written _ (named-behind x.keyword x.name _ _ _ h w, tt))
+  | inl e ↦ subst IsWritten e (written _ (h.1.0.name (second (on (is T.Extension) x.keyword) (on (is T.Identifier) x.name) _ w), tt))
   | inr n ↦ (let inside = braced (on (on_new_line begins_extension_member)) (with_access extension_member_form) x.keyword x.name x.opening x.closing x.members
-        (on (is T.Extension) x.keyword) (on (is T.Identifier) x.name) (on (is T.LeftBrace) x.opening) (on (is T.RightBrace) x.closing) h w in
+      (on (is T.Extension) x.keyword) (on (is T.Identifier) x.name) (on (is T.LeftBrace) x.opening) (on (is T.RightBrace) x.closing) h w in
       extension-members-written path (key_name path (is_among own x.name.text) x.name.text) x.members inside.0 inside.1 d n)
 ]
 
