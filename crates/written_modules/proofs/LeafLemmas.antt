@@ -16,6 +16,7 @@ use Rattle.swift_token.specs.Faults.{SpellsTo}
 use Rattle.type_infer.specs.Plain.{is_word, is_name}
 use Rattle.written_modules.proofs.WordLemmas.{identifier-name, name-word, keyword-word}
 
+-- what the grammar takes for a name, and what for a label
 abbrev pub can_name : Terminal → Bool
 can_name k = number k == number T.Identifier
 
@@ -50,6 +51,7 @@ mark_rows =
     ∷ (codes "+", T.Plus) ∷ (codes "-", T.Minus) ∷ (codes "*", T.Times) ∷ (codes "/", T.Divide) ∷ (codes "%", T.Remainder)
     ∷ (codes "&&", T.And) ∷ (codes "||", T.Or) ∷ (codes "!", T.Not) ∷ []
 
+-- what neither of two passes, their choice doesn't
 neither : (t : Terminal → Bool) (b : Bool) (x y : Terminal) → t x ≡ false → t y ≡ false → t (if b then x else y) ≡ false
 neither t true x y h g = h
 neither t false x y h g = g

@@ -1,7 +1,7 @@
 -- What the parser gives is written.
-use Rattle.std.proofs.Common.{◌≡◌, ℕ, List, [], Ok, refl, sym, subst}
+use Rattle.std.proofs.Common.{ℕ, List, [], refl, sym, subst}
 use Rattle.swift_token.specs.Trivia.{IsLastTrivia}
-use Rattle.swift_parser.specs.Whole.{ParsesFile, IsTreeOf}
+use Rattle.swift_parser.specs.Whole.{IsTreeOf}
 use Rattle.swift_ast.specs.declared.declarations.FileTree.{FileTree}
 use Rattle.written_modules.specs.Written.{IsWrittenTree, ParsedTreesAreWritten}
 use Rattle.written_modules.proofs.LeafLemmas.{spelled-good}

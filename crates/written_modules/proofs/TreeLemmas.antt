@@ -1,10 +1,10 @@
 -- The names and the labels of trees whose tokens are good.
-use Rattle.std.proofs.Common.{◌≡◌, ℕ, Bool, true, false, List, [], ◌∷◌, ◌++◌, map, Option, Some, None, refl, sym, subst, inl, inr}
+use Rattle.std.proofs.Common.{◌≡◌, ℕ, Bool, true, List, [], ◌∷◌, ◌++◌, map, Option, Some, None, subst, inl, inr}
 use Rattle.std.specs.Prelude.{◌&&◌}
 use Rattle.std.specs.List.{AllByRecursion}
 use Rattle.std.proofs.lemmas.Bool.{and_parts}
 use Rattle.queries.specs.Queries.{Among}
-use Rattle.grammar.specs.Forms.{Form, token, both, perhaps, many, lines, beginning, in_row, begins_by, all_well_formed, perhaps_tokens, perhaps_well_formed, lines_well_formed}
+use Rattle.grammar.specs.Forms.{Form, token, both, beginning, in_row, begins_by, all_well_formed, perhaps_tokens, perhaps_well_formed, lines_well_formed}
 use Rattle.swift_ast.specs.declared.terminals.Terminal.TheVariants as T
 use Rattle.swift_ast.specs.declared.declarations.FileTree.{FileTree}
 use Rattle.swift_ast.specs.declared.declarations.Access.{Access}
@@ -19,12 +19,12 @@ use Rattle.swift_ast.specs.declared.declarations.StructMember.TheVariants as mem
 use Rattle.swift_ast.specs.declared.declarations.ExtensionMember.{ExtensionMember}
 use Rattle.swift_ast.specs.declared.declarations.ExtensionMember.TheVariants as extended
 use Rattle.swift_ast.specs.Leaves.{Leaf}
-use Rattle.swift_ast.specs.Tests.{on, on_new_line, is, is_access, is_label, begins_next_decl, begins_struct_member, begins_extension_member}
+use Rattle.swift_ast.specs.Tests.{on, on_new_line, is, is_label, begins_next_decl, begins_struct_member, begins_extension_member}
 use Rattle.swift_ast.specs.Expressions.{word}
 use Rattle.swift_ast.specs.Statements.{type_form, specifier_form}
-use Rattle.swift_ast.specs.Declarations.{access_form, stored_value_form, param_form, params_rule, func_form, stored_form, computed_form, global_form, alias_form, struct_form, extension_form, struct_member_form, extension_member_form, with_access, named_form, decl_form, decls_form}
+use Rattle.swift_ast.specs.Declarations.{access_form, stored_value_form, param_form, params_rule, func_form, struct_member_form, extension_member_form, with_access, named_form, decl_form, decls_form}
 use Rattle.dep_key.specs.KeyBuilders.{key_name}
-use Rattle.decl_index.specs.Declarations.{Item, FuncItem, Declaration, declarations_in, decl_declarations, named_declarations, struct_member_declaration, extension_member_declaration, struct_member_name, struct_member_item, extension_member_name, extension_member_item, private_structs, is_private, is_among}
+use Rattle.decl_index.specs.Declarations.{Item, FuncItem, Declaration, decl_declarations, named_declarations, struct_member_declaration, extension_member_declaration, struct_member_name, struct_member_item, extension_member_name, extension_member_item, private_structs, is_private, is_among}
 use Rattle.type_infer.specs.Readings.{label_in, label_of, params_in}
 use Rattle.type_infer.specs.Plain.{is_word, is_name, AreLabels, IsWritten}
 use Rattle.type_infer.proofs.ListFacts.{among-flat, among-map}

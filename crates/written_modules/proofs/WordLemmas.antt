@@ -1,6 +1,6 @@
 -- Words and names by their bytes.
 use Rattle.std.proofs.Common.{◌≡◌, ℕ, Bool, true, false, List, [], ◌∷◌, refl, ap, sym, ◌∙◌}
-use Rattle.std.specs.Prelude.{not, ◌&&◌, ◌||◌, ◌==◌}
+use Rattle.std.specs.Prelude.{not, ◌&&◌, ◌==◌}
 use Rattle.std.specs.List.{list_all, list_any}
 use Rattle.std.proofs.lemmas.Bool.{eqb-true, and_parts, and_from, or_from, or_left, or_parts, false≢true}
 use Rattle.drv_outside.specs.Plain.{is_path_byte, is_plain_path, are_path_bytes, are_plain_components}
@@ -54,6 +54,7 @@ token-bytes (b ∷ bs) h =
 pub identifier-name : (text : List ℕ) → is_identifier text ≡ true → is_name text ≡ true
 identifier-name text h = bytes-name text (token-bytes text (and_parts (is_token_word text) (not (is_keyword text)) h).0)
 
+-- A name is a word.
 pub name-word : (text : List ℕ) → is_name text ≡ true → is_word text ≡ true
 name-word text h = (and_parts (is_word text) (list_all (λ b. not (b == 46) && not (b == 64)) text) h).0
 
