@@ -1,8 +1,8 @@
 //! What the parser gives is a written module.
 //!
-//! The laws of the meanings of a module are about modules that are written with names and words (`type_infer`). Here it
-//! is shown of each module that is read from texts: its names are identifiers, and the labels of its functions are
-//! identifiers or `_`. `specs/Written.antt` says it.
+//! The laws of the meanings of a module are about modules that are written with names and words (`type_infer`). Each
+//! module that is read from texts at plain paths is one, since the grammar has identifiers where something is named, and
+//! identifiers or `_` as labels. `specs/Written.antt` says it.
 #![tactic(auto)]
 
 ghost use Rattle.written_modules.specs.Written.{ParsedTreesAreWritten, WrittenTreesAreModules};
