@@ -7,7 +7,7 @@ use Rattle.disk_commit.specs.declared.files.File.{File}
 use Rattle.file_map.specs.declared.names.FileNames.{FileNames}
 use Rattle.module_compile.specs.declared.compiled.Outcome.{Outcome}
 use Rattle.module_compile.specs.declared.compiled.Outcome.TheVariants.{Texts, Errors}
-use Rattle.module_merge.proofs.OneOrderLemmas.{one_merged, one_image}
+use Rattle.module_merge.proofs.TextLawLemmas.{one_merged, one_image}
 use Rattle.swiftdeps.proofs.OneSpellingLaws.{one_written}
 use Rattle.module_compile.specs.ModuleGraph.{recorded_graph}
 use Rattle.driver_build.specs.CleanFolder.{clean_results}

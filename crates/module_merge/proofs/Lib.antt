@@ -4,3 +4,5 @@ pub mod PathOrderLemmas
 pub mod MergeLemmas
 pub mod MissingLemmas
 pub mod OneOrderLemmas
+pub mod AnyOrderLemmas
+pub mod TextLawLemmas
