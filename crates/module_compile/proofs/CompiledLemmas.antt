@@ -54,3 +54,8 @@ compiled_is meanings file found made path errors units uses here at err un us ou
       outcome = (outcome ∙ (λ j. outcome_as meanings (at j) (err j) (un j) file)) i;
       graph = (graph_is ∙ (λ j. graph_of meanings (us j) file)) i;
     })
+
+-- files that were compiled with the meanings of a module's files
+pub with_meanings : (files meant : List FileTree) (made : List CompiledFile) → meant ≡ files → made ≡ map (compiled_with (meaning_in meant)) files → made ≡ map (compiled_in files) files
+unfolding compiled_in
+with_meanings files meant made is e = e ∙ (λ i. map (compiled_with (meaning_in (is i))) files)
