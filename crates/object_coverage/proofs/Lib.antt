@@ -1,0 +1,4 @@
+pub mod Giving
+pub mod CodeLemmas
+pub mod ExpressionLemmas
+pub mod TreeLemmas
