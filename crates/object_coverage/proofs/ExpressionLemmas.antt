@@ -85,7 +85,7 @@ module _ (m : Key → Meaning) (K : Key → Type 0) where
   -- Types.
 
   -- whatever the layout of a type is, it was asked
-  abbrev Laid : Ty → Ty → Type 0
+  abbrev pub Laid : Ty → Ty → Type 0
   Laid of u = LaidType K of × LaidType K u
 
   laid-out-as : (at : Place) (c : List ℕ) (x : Meaning) → K (nominal c) → EndsIn m K (λ r. LaidType K (ty.Struct c) × HasValue (Laid (ty.Struct c)) r) (laid_out_as at c x)

@@ -76,5 +76,5 @@ initial_keys (initially.Own steps) = steps_keys steps
 -- The keys that a unit of code is laid out by.
 abbrev pub unit_keys : CodeUnit → List Key
 unit_keys (unit.Global symbol of steps) = type_keys of ++ steps_keys steps
-unit_keys (unit.Function symbol f) = receiver_keys f.receiver ++ types_keys f.types ++ type_keys f.result ++ steps_keys f.code
+unit_keys (unit.Function symbol f) = receiver_keys f.receiver ++ (types_keys f.types ++ (type_keys f.result ++ steps_keys f.code))
 unit_keys (unit.Initializer context initials) = nominal context ∷ flat_map initial_keys initials
