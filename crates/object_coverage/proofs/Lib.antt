@@ -5,3 +5,5 @@ pub mod TreeLemmas
 pub mod StatementLemmas
 pub mod DeclarationLemmas
 pub mod EmissionLemmas
+pub mod PartialLemmas
+pub mod TextLemmas

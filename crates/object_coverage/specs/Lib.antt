@@ -1,1 +1,2 @@
 pub mod CodeKeys
+pub mod Texts
