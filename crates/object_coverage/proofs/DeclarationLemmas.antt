@@ -1,5 +1,5 @@
 -- The structs in the code of a file were asked when the file was checked.
-use Rattle.std.proofs.Common.{◌≡◌, ℕ, Bool, true, false, List, [], ◌∷◌, ◌++◌, map, length, Option, Some, None, refl, subst, inl, inr}
+use Rattle.std.proofs.Common.{ℕ, Bool, true, false, List, [], ◌∷◌, ◌++◌, map, length, Option, Some, None, refl, subst, inl, inr}
 use Rattle.std.specs.Prelude.{flat_map}
 use Rattle.std.specs.List.{AllByRecursion}
 use Rattle.queries.specs.Queries.{Among, value_with}
@@ -9,7 +9,6 @@ use Rattle.swift_ast.specs.Leaves.{Leaf}
 use Rattle.swift_ast.specs.declared.statements.Block.{Block}
 use Rattle.swift_ast.specs.declared.statements.TypeName.{TypeName}
 use Rattle.swift_ast.specs.declared.declarations.Access.{Access}
-use Rattle.swift_ast.specs.declared.declarations.Alias.{Alias}
 use Rattle.swift_ast.specs.declared.declarations.Computed.{Computed}
 use Rattle.swift_ast.specs.declared.declarations.Decl.{Decl}
 use Rattle.swift_ast.specs.declared.declarations.Decl.TheVariants.{Named as NamedAs, Extension as Extended}
@@ -36,7 +35,6 @@ use Rattle.typed_code.specs.declared.units.Initial.{Initial}
 use Rattle.typed_code.specs.declared.units.Unit.{Unit as CodeUnit}
 use Rattle.checks.specs.Checks.{tried, hushed, noting, go_on, all, sure}
 use Rattle.checks.specs.OwnKeys.{answering, used, owned}
-use Rattle.expr_check.specs.declared.line.Line.{Line}
 use Rattle.expr_check.specs.declared.typed.Typed.{Typed}
 use Rattle.expr_check.specs.declared.scope.Scope.{Scope}
 use Rattle.expr_check.specs.Message as is
@@ -45,16 +43,16 @@ use Rattle.expr_check.specs.Scopes.{declaring}
 use Rattle.expr_check.specs.Types.{CheckOf, type_named, type_written, laid_out}
 use Rattle.expr_check.specs.Expressions.{member_symbol}
 use Rattle.expr_check.specs.Phrases.{Phrase, expr_phrase}
-use Rattle.body_check.specs.Statements.{falls_through, in_block, annotated, fitting, not_declared, block_statements}
-use Rattle.body_check.specs.Declarations.{FileCheck, UnitCheck, in_order, used_meaning, own_meaning, declared as told, Site, circle, lines_of, standing, outside, inside, params_of, params_read, result_type, ended, all_there, consed, function_units, function_end, in_function, function_giving, function_check, unless_circular, fitting_value, value_check, global_units, own_code, handed_in, stored_check, name_in_keys, global_check, func_check, alias_check, method_check, computed_check, MemberCode, units_alone, stored_member, struct_member_check, initializer_units, struct_units, size_check, struct_check, extension_member_check, extension_members, extension_as, decl_check, site, file_check}
+use Rattle.body_check.specs.Statements.{falls_through, in_block, annotated, not_declared, block_statements}
+use Rattle.body_check.specs.Declarations.{FileCheck, UnitCheck, in_order, used_meaning, declared as told, Site, circle, lines_of, standing, outside, inside, params_of, params_read, result_type, ended, all_there, consed, function_units, function_end, in_function, function_check, unless_circular, fitting_value, value_check, global_units, own_code, handed_in, stored_check, name_in_keys, method_check, computed_check, MemberCode, struct_member_check, initializer_units, struct_units, size_check, struct_check, extension_member_check, extension_members, extension_as, decl_check, site, file_check}
 use Rattle.body_check.specs.Files.{units_or_none, file_units, file_asks}
 use Rattle.type_infer.specs.Sound.{Anything, IfThere}
 use Rattle.object_coverage.specs.CodeKeys.{type_keys, types_keys, receiver_keys, initial_keys, steps_keys, unit_keys}
-use Rattle.object_coverage.proofs.Giving.{EndsIn, HasValue, Gives, KeyIs, all-append, gives-any, gives-bind, gives-noting, gives-noting-what, gives-tried, gives-hushed, gives-all, gives-behind, ends-used, value-is}
-use Rattle.object_coverage.proofs.CodeLemmas.{LaidType, LaidStep, LaidCode, LaidTyped, LaidInitial, LaidUnit, all-flat, laid-return, laid-behind, steps-laid}
+use Rattle.object_coverage.proofs.Giving.{HasValue, Gives, KeyIs, all-append, gives-any, gives-bind, gives-noting, gives-noting-what, gives-tried, gives-hushed, gives-all, ends-used, value-is}
+use Rattle.object_coverage.proofs.CodeLemmas.{LaidType, LaidCode, LaidTyped, LaidInitial, LaidUnit, all-flat, laid-return, laid-behind, steps-laid}
 use Rattle.object_coverage.proofs.ExpressionLemmas.{IsLaidScope, SelfIs, laid-out-asks, written-laid}
 use Rattle.object_coverage.proofs.TreeLemmas.{expression-laid}
-use Rattle.object_coverage.proofs.StatementLemmas.{LaidRead, declaring-laid, block-laid, annotated-laid, fitting-laid, statements-laid}
+use Rattle.object_coverage.proofs.StatementLemmas.{LaidRead, declaring-laid, block-laid, fitting-laid, statements-laid}
 
 module _ (m : Key → Meaning) (K : Key → Type 0) where
   abbrev Fine : {X : Type 0} → (X → Type 0) → CheckOf X → Type 0
@@ -105,10 +103,12 @@ module _ (m : Key → Meaning) (K : Key → Type 0) where
   units-laid symbol receiver params falls None result code r t g c = tt
   units-laid symbol receiver params falls (Some types) None code r t g c = tt
   units-laid symbol receiver params falls (Some types) (Some result) None r t g c = tt
-  units-laid symbol receiver params falls (Some types) (Some result) (Some code) r t g c =
-      (all-append K (receiver_keys receiver) (types_keys types ++ (type_keys result ++ steps_keys (ended falls code))) (receiver-laid receiver r)
-      (all-append K (types_keys types) (type_keys result ++ steps_keys (ended falls code)) (all-flat K type_keys types t)
-      (all-append K (type_keys result) (steps_keys (ended falls code)) g (steps-laid K (ended falls code) (ended-laid falls code c)))), tt)
+  units-laid symbol receiver params falls (Some types) (Some result) (Some code) r t g c = (
+    all-append K (receiver_keys receiver) (types_keys types ++ (type_keys result ++ steps_keys (ended falls code))) (receiver-laid receiver r)
+        (all-append K (types_keys types) (type_keys result ++ steps_keys (ended falls code)) (all-flat K type_keys types t)
+        (all-append K (type_keys result) (steps_keys (ended falls code)) g (steps-laid K (ended falls code) (ended-laid falls code c)))),
+    tt,
+  )
 
   end-laid : (s : Scope) (symbol : List ℕ) (name : Leaf) (params : ℕ) (falls : Bool) (gives : Option Ty) (r : Scope × Option (List Step)) →
       IsLaidScope K s → IfThere (LaidType K) gives → LaidRead m K r → Fine LaidUnits (function_end s symbol name params falls gives r)

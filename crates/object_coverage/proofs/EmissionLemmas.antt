@@ -1,6 +1,6 @@
 -- Code is laid out the same where the keys that it is laid out by mean the same.
 use Rattle.std.proofs.Common.{◌≡◌, ℕ, ◌+◌, List, [], ◌∷◌, ◌++◌, map, take, Option, Some, None, refl, ap, sym, ◌∙◌, subst, inl, inr}
-use Rattle.std.specs.Prelude.{flat_map, codes, ◌==◌, if◌then◌else◌}
+use Rattle.std.specs.Prelude.{flat_map, codes}
 use Rattle.std.proofs.Common.{drop}
 use Rattle.std.proofs.lemmas.List.{take-append-drop}
 use Rattle.std.proofs.lemmas.List.Sums.{sum_by-cons}
@@ -23,7 +23,7 @@ use Rattle.type_infer.proofs.ListFacts.{among-left, among-right, among-flat, fla
 use Rattle.object_emit.specs.declared.instruction.Instruction.TheVariants as op
 use Rattle.object_emit.specs.Layouts.{or_zero, words, struct_words, total, receiver_words, slots_from, slot_in, stored, offset_in, offset_of, member_offset, offset_along}
 use Rattle.object_emit.specs.Pieces.{Piece, plain, one, joined, in_row, and_piece, or_piece, while_piece, if_piece}
-use Rattle.object_emit.specs.Emission.{Site, site, property, dropped, step_layer, branch_layer, step_piece, branch_parts, steps_piece}
+use Rattle.object_emit.specs.Emission.{site, property, dropped, step_layer, branch_layer, step_piece, branch_parts, steps_piece}
 use Rattle.object_emit.specs.Objects.{code_of, bare_piece, init_symbol, body_piece, body_text, global_line, global_text, given_words, initial_piece, initials_piece, initializer_piece, initializer_text, unit_text, object_text}
 use Rattle.object_emit.specs.Printing.{function_text}
 use Rattle.object_coverage.specs.CodeKeys.{type_keys, types_keys, members_keys, joined_keys, step_layer_keys, branch_layer_keys, step_keys, branch_keys, steps_keys, receiver_keys, initial_keys, unit_keys}

@@ -1,5 +1,5 @@
 -- Where all that is asked is among some keys, the structs in the code of names, members, operators and calls are laid out by these.
-use Rattle.std.proofs.Common.{◌≡◌, ℕ, Bool, true, false, List, [], ◌∷◌, ◌++◌, map, Option, Some, None, refl, sym, ◌∙◌, subst}
+use Rattle.std.proofs.Common.{◌≡◌, ℕ, Bool, true, false, List, [], ◌∷◌, ◌++◌, map, Option, Some, None, refl, sym, subst}
 use Rattle.std.specs.Prelude.{codes, flat_map, if◌then◌else◌}
 use Rattle.std.specs.List.{AllByRecursion}
 use Rattle.dep_key.specs.declared.key.Key.{Key}
@@ -16,7 +16,7 @@ use Rattle.type_rules.specs.declared.meaning.Meaning.TheVariants as means
 use Rattle.type_rules.specs.declared.meaning.Parameter.{Parameter}
 use Rattle.typed_code.specs.declared.step.Step.{Step}
 use Rattle.typed_code.specs.declared.step.Step.TheVariants as step
-use Rattle.checks.specs.Checks.{sure, both, go_on}
+use Rattle.checks.specs.Checks.{sure}
 use Rattle.expr_check.specs.declared.place.Place.{Place}
 use Rattle.expr_check.specs.declared.typed.Typed.{Typed}
 use Rattle.expr_check.specs.declared.named.Named.{Named}
@@ -26,9 +26,9 @@ use Rattle.expr_check.specs.declared.scope.Scope.{Scope}
 use Rattle.expr_check.specs.Messages.{place_of}
 use Rattle.expr_check.specs.Scopes.{local_named, named_in, or_else, same_text}
 use Rattle.expr_check.specs.Types.{CheckOf, Found, provided, look_up, member_keys, usable, type_named, laid_out_as, laid_out, valued, type_written}
-use Rattle.expr_check.specs.Expressions.{typed, converted, keys_in, value_keys, by_kind, value_of, value_meant, is_print, value_found, named_beyond, name_of, value_by, self_in, self_value, property, local_value, name_value, name_check, member_there, member_in, member_named, member_value, operator_of, operator_code, binary_as, binary, prefix_step, unary_as, unary, Given, Callee, Takes, Prints, IsValue, same_labels, fitted, received, call_code, is_printed, printed, print_call, call, initializer_of, type_callee, method_of, function_callee, value_callee, callee_meant, callee_found, callee_beyond, callee_named, method_meant, method_named}
+use Rattle.expr_check.specs.Expressions.{converted, keys_in, value_keys, by_kind, value_of, value_meant, is_print, value_found, named_beyond, name_of, value_by, self_in, self_value, property, local_value, name_value, name_check, member_there, member_named, member_value, operator_of, operator_code, binary_as, binary, prefix_step, unary_as, unary, Given, Callee, Takes, Prints, IsValue, same_labels, fitted, received, call_code, is_printed, printed, print_call, call, initializer_of, type_callee, function_callee, value_callee, callee_meant, callee_found, callee_beyond, callee_named, method_meant, method_named}
 use Rattle.type_infer.specs.Sound.{Anything, IfThere}
-use Rattle.object_coverage.proofs.Giving.{EndsIn, HasValue, Gives, BothAre, all-append, ends-weaker, gives-any, gives-bind, gives-both, gives-noting-what, gives-all, gives-choice}
+use Rattle.object_coverage.proofs.Giving.{EndsIn, HasValue, Gives, BothAre, all-append, ends-weaker, gives-any, gives-bind, gives-noting-what, gives-all, gives-choice}
 use Rattle.object_coverage.proofs.CodeLemmas.{LaidType, LaidStep, LaidCode, LaidTyped, laid-local, laid-self, laid-global, laid-property, laid-call, laid-print, laid-operate, laid-negate, laid-not, laid-and, laid-or, laid-behind}
 
 -- `self` has the type of the struct whose member it stands in

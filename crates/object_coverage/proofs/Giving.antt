@@ -4,7 +4,7 @@ use Rattle.std.specs.Prelude.{if◌then◌else◌}
 use Rattle.std.specs.List.{AllByRecursion}
 use Rattle.queries.specs.Queries.{Task, Done, Fetch, Among, value_with}
 use Rattle.checks.specs.Checks.{Checked, Check, behind, on_value, go_on, paired, and_then, both, appended, observing, all_behind, all, noting, tried, hushed, grouped}
-use Rattle.checks.specs.OwnKeys.{Asked, Use, Own, key_of, answering, used, asks}
+use Rattle.checks.specs.OwnKeys.{Asked, key_of, answering, used, asks}
 use Rattle.type_infer.specs.Sound.{Anything, IfThere}
 
 -- With these answers, a task that asks none but these keys ends with such a value.

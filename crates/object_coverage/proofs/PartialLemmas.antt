@@ -1,5 +1,5 @@
 -- The partial text of a file asks keys of the file's own, which are uses of its definitions.
-use Rattle.std.proofs.Common.{◌≡◌, ℕ, Bool, true, false, List, [], ◌∷◌, ◌++◌, map, Option, Some, None, refl, ap, sym, ◌∙◌, subst, ◌⊎◌, inl, inr}
+use Rattle.std.proofs.Common.{◌≡◌, ℕ, Bool, true, false, List, [], ◌∷◌, ◌++◌, Option, None, refl, ap, sym, ◌∙◌, subst, inl, inr}
 use Rattle.std.specs.Prelude.{flat_map, codes, if◌then◌else◌}
 use Rattle.queries.specs.Queries.{Among, dependencies}
 use Rattle.dep_key.specs.declared.key.Key.{Key}
@@ -21,9 +21,7 @@ use Rattle.type_infer.specs.Meanings.{meaning_in}
 use Rattle.type_infer.specs.Sound.{is_asked_kind}
 use Rattle.type_infer.proofs.ListFacts.{among-append, among-left, among-right, among-flat, among-map}
 use Rattle.iface_print.specs.Nodes.{node_query}
-use Rattle.iface_print.specs.Coverage.{IsUse, IsDefinitionUse}
-use Rattle.iface_print.specs.Partials.{is_kept, item_line, line_by_keys, partial_line, partial_text}
-use Rattle.file_coverage.specs.Laws.{implementation}
+use Rattle.iface_print.specs.Partials.{is_kept, item_line, line_by_keys, partial_line}
 use Rattle.object_coverage.specs.Texts.{item_asks, line_asks, partial_asks, MeanTheSame, EqualAnswersGiveEqualPartials, PartialsAskUses}
 
 -- Equal answers.

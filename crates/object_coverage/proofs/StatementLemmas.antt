@@ -1,5 +1,5 @@
 -- The structs in the code of any statement are laid out.
-use Rattle.std.proofs.Common.{ℕ, Bool, true, false, List, [], ◌∷◌, ◌++◌, map, length, Option, Some, None, sym, subst}
+use Rattle.std.proofs.Common.{ℕ, Bool, List, [], ◌∷◌, ◌++◌, map, length, Option, Some, None, sym, subst}
 use Rattle.std.specs.List.{AllByRecursion}
 use Rattle.std.specs.Option.{option_map}
 use Rattle.dep_key.specs.declared.key.Key.{Key}
@@ -19,7 +19,7 @@ use Rattle.swift_ast.specs.declared.statements.ElseIf.{ElseIf, ElseIf-F, fold-El
 use Rattle.typed_code.specs.declared.step.Step.{Step}
 use Rattle.typed_code.specs.declared.step.Step.TheVariants as step
 use Rattle.typed_code.specs.declared.step.Branch.{Branch}
-use Rattle.checks.specs.Checks.{both, tried, go_on, noting, sure}
+use Rattle.checks.specs.Checks.{both, tried, go_on}
 use Rattle.expr_check.specs.declared.place.Place.{Place}
 use Rattle.expr_check.specs.declared.typed.Typed.{Typed}
 use Rattle.expr_check.specs.declared.named.Named.{Named}
@@ -29,7 +29,7 @@ use Rattle.expr_check.specs.declared.scope.Scope.{Scope}
 use Rattle.expr_check.specs.Messages.{place_of}
 use Rattle.expr_check.specs.Scopes.{in_innermost, declaring, entering, leaving}
 use Rattle.expr_check.specs.Types.{CheckOf, Found, valued, type_written}
-use Rattle.expr_check.specs.Expressions.{self_value, converted, name_of, name_value, member_named}
+use Rattle.expr_check.specs.Expressions.{self_value, converted, name_of, member_named}
 use Rattle.expr_check.specs.Phrases.{Phrase, expr_phrase, postfix_phrase}
 use Rattle.body_check.specs.Statements.{Statement, of_both, row_behind, in_block, plain, annotated, binding_type, fitting, not_declared, is_var, set_local, local_read, Destination, can_assign, is_assignable, storing, root_value, named_destination, root_destination, through, member_meant, member_destination, members_destination, target_destination, assigned, assign_check, return_none, converted_to, return_value, return_check, condition, while_read, Clause, branch, clauses_behind, if_read, call_check, one_stmt, one_block, one_else_if, one_if, block_statements}
 use Rattle.type_infer.specs.Sound.{Anything, IfThere}

@@ -1,8 +1,5 @@
 -- Texts of files are functions of the answers to keys that the files use.
-use Rattle.std.proofs.Common.{◌≡◌, true, List, ap, ◌∙◌, inl, inr}
-use Rattle.queries.specs.Queries.{Among}
-use Rattle.dep_key.specs.declared.key.Key.{Key}
-use Rattle.swift_ast.specs.declared.declarations.FileTree.{FileTree}
+use Rattle.std.proofs.Common.{◌≡◌, true, ap, ◌∙◌, inl, inr}
 use Rattle.type_infer.specs.Meanings.{meaning_in}
 use Rattle.type_infer.specs.Sound.{is_asked_kind}
 use Rattle.type_infer.proofs.ListFacts.{among-append, among-left, among-right}
@@ -13,7 +10,7 @@ use Rattle.body_check.proofs.FileLemmas.{same_file}
 use Rattle.object_emit.specs.Objects.{object_text}
 use Rattle.file_coverage.specs.Laws.{implementation}
 use Rattle.file_coverage.proofs.FileLemmas.{asked-keys}
-use Rattle.object_coverage.specs.Texts.{code_keys, object_asks, partial_asks, EqualAnswersGiveEqualObjects, LayoutsWereAsked, ObjectsAskUses, UnchangedFilesHaveTheSameTexts}
+use Rattle.object_coverage.specs.Texts.{code_keys, EqualAnswersGiveEqualObjects, LayoutsWereAsked, ObjectsAskUses, UnchangedFilesHaveTheSameTexts}
 use Rattle.object_coverage.proofs.DeclarationLemmas.{layouts-asked}
 use Rattle.object_coverage.proofs.EmissionLemmas.{object-same}
 use Rattle.object_coverage.proofs.PartialLemmas.{partials-same, partials-ask}
