@@ -8,17 +8,15 @@ use Rattle.swift_ast.specs.declared.expressions.Expr.{Expr}
 use Rattle.swift_ast.specs.declared.expressions.Postfix.{Postfix}
 use Rattle.checks.specs.Checks.{both, go_on}
 use Rattle.expr_check.specs.declared.scope.Scope.{Scope}
+use Rattle.expr_check.specs.declared.typed.Typed.{Typed}
 use Rattle.expr_check.specs.Messages.{place_of}
 use Rattle.expr_check.specs.Types.{CheckOf}
-use Rattle.expr_check.specs.Expressions.{binary, call, member_named}
+use Rattle.expr_check.specs.Expressions.{self_value, binary, call, member_named}
 use Rattle.expr_check.specs.Phrases.{Phrase, Front, Value, Name, MemberOf, Opening, Argument, Part, Member, Call, chain, given, givens, as_value, as_callee, callee_name, extended, prefixed, expr_phrase, postfix_phrase}
 use Rattle.type_infer.proofs.TreeInduction.{IsKept, each-expr, each-postfix}
-use Rattle.object_coverage.proofs.Giving.{Gives, BothAre, gives-bind, gives-both, gives-all, gives-grouped}
+use Rattle.object_coverage.proofs.Giving.{Gives, BothAre, gives-weaker, gives-bind, gives-both, gives-all, gives-grouped}
 use Rattle.object_coverage.proofs.CodeLemmas.{LaidTyped, laid-integer, laid-string, laid-truth}
 use Rattle.object_coverage.proofs.ExpressionLemmas.{IsLaidScope, LaidFound, LaidGiven, LaidCallee, LaidSelf, self-laid, name-laid, member-named-laid, member-value-laid, binary-laid, unary-laid, call-laid, value-callee-laid, callee-laid, method-laid}
-use Rattle.object_coverage.proofs.Giving.{gives-weaker}
-use Rattle.expr_check.specs.Expressions.{self_value}
-use Rattle.expr_check.specs.declared.typed.Typed.{Typed}
 
 module _ (m : Key → Meaning) (K : Key → Type 0) where
   -- In a scope, the structs in the code of a phrase are laid out.
