@@ -91,7 +91,11 @@ fn names_of(alloc: Global, files: &[File]) -> Result<BTreeSet<Name>, AllocError>
 }
 
 /// The names that none of these files has, in their order.
-pub(crate) fn unwanted(alloc: Global, names: &[Name], files: &[File]) -> Result<Vec<Name>, AllocError>
+pub(crate) fn unwanted(
+    alloc: Global,
+    names: &[Name],
+    files: &[File],
+) -> Result<Vec<Name>, AllocError>
     requires plain { All (λ name. IsTrue (is_plain_name name)) names.now }
     ensures left { IfOk result (λ left. left.items ≡ unwanted files.now names.now) }
     ensures plain { IfOk result (λ left. All (λ name. IsTrue (is_plain_name name)) left.items) }

@@ -84,7 +84,9 @@ fn partials_of(alloc: Global, files: &[FileResult]) -> Result<Vec<Text>, NoMemor
 fn are_partials(partials: &[Text]) -> bool
     ensures { result ≡ list_all is_partial partials.now }
 {
-    partials.iter().all(|partial| is_partial(partial.as_slice()))
+    partials
+        .iter()
+        .all(|partial| is_partial(partial.as_slice()))
 }
 
 /// Whether each text is an object.
@@ -198,11 +200,7 @@ pub fn module_outputs(
 }
 
 /// The file of the priors. A graph that has no spelling ends as want of memory does.
-pub fn priors_file(
-    alloc: Global,
-    asked: &Asked,
-    graphs: &[FileGraph],
-) -> Result<File, NoMemory>
+pub fn priors_file(alloc: Global, asked: &Asked, graphs: &[FileGraph]) -> Result<File, NoMemory>
     requires ascending { AreAscendingTexts (paths_of graphs.now) }
     ensures { IfOk result (λ made. spec.IsPriorsFile (wanted asked.now) graphs.now made) }
 {
@@ -275,11 +273,7 @@ fn build_record_of(
 }
 
 /// The file of the record.
-pub fn record_file(
-    alloc: Global,
-    asked: &Asked,
-    files: &[FileResult],
-) -> Result<File, NoMemory>
+pub fn record_file(alloc: Global, asked: &Asked, files: &[FileResult]) -> Result<File, NoMemory>
     requires module { IsUtf8 asked.now.«module» }
     requires map { IfSome asked.now.map IsUtf8 }
     requires each { length files.now ≡ length asked.now.listed.items }

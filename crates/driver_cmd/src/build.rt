@@ -31,11 +31,7 @@ enum Project {
 }
 
 // Reads the listed sources.
-fn read_listed<T: Tree>(
-    alloc: Global,
-    tree: &mut T,
-    entries: Vec<Entry>,
-) -> Result<Project, Status>
+fn read_listed<T: Tree>(alloc: Global, tree: &mut T, entries: Vec<Entry>) -> Result<Project, Status>
     requires plain { ListsPlainPaths (listing.Listed entries) }
     ensures project { IfOk result (λ project. IfSome (T.observed tree.old) (λ t. IsListed t.sources (listing.Listed entries) → IsReadFrom t.sources project)) }
     ensures ordered { IfOk result IsInOrder }

@@ -1,6 +1,6 @@
 //! Builds over a tree in memory that are stopped.
 
-use crate::folders::{files_of, have_same_files};
+use crate::folders::{File, files_of, have_same_files};
 use anyhow::{Error, anyhow};
 use driver_cmd::{Status, drive_alone};
 use drv_outside::{Stamp, Text};
@@ -80,15 +80,23 @@ fn crash(tree: &mut MemTree, choice: u64) -> Result<(), Error> {
     }
 }
 
-// Whether one more build leaves the folder of a build from nothing.
-fn is_clean_once_built<R: AllocGlobal>(rt: &R, tree: &mut MemTree) -> Result<bool, Error> {
-    let mut fresh = new_tree(rt.alloc())?;
-    put_new_sources(&mut fresh)?;
-    let clean = build(rt, &mut fresh)?;
-    let again = build(rt, tree)?;
+/// The folder of a build from nothing.
+pub fn clean_files<R: AllocGlobal>(rt: &R) -> Result<Vec<File>, Error> {
+    let mut tree = new_tree(rt.alloc())?;
+    put_new_sources(&mut tree)?;
+    build(rt, &mut tree)?;
+    files_of(rt.alloc(), &mut tree)
+}
+
+// Whether one more build leaves the clean folder.
+fn is_clean_once_built<R: AllocGlobal>(
+    rt: &R,
+    tree: &mut MemTree,
+    clean: &[File],
+) -> Result<bool, Error> {
+    let status = build(rt, tree)?;
     let files = files_of(rt.alloc(), tree)?;
-    let wanted = files_of(rt.alloc(), &mut fresh)?;
-    Ok(clean == Status::Done && again == Status::Done && have_same_files(&files, &wanted))
+    Ok(status == Status::Done && have_same_files(&files, clean))
 }
 
 /// How many calls a whole build makes.
@@ -105,6 +113,7 @@ pub fn ends_clean<R: AllocGlobal>(
     earlier: Earlier,
     calls: u64,
     choice: u64,
+    clean: &[File],
 ) -> Result<bool, Error> {
     let mut tree = edited(rt, earlier)?;
     tree.stop_after(calls);
@@ -112,11 +121,16 @@ pub fn ends_clean<R: AllocGlobal>(
         return Ok(false);
     }
     crash(&mut tree, choice)?;
-    is_clean_once_built(rt, &mut tree)
+    is_clean_once_built(rt, &mut tree, clean)
 }
 
 /// Whether a build one of whose calls fails ends with status 3, and ends clean once it is built again.
-pub fn fails_cleanly<R: AllocGlobal>(rt: &R, earlier: Earlier, number: u64) -> Result<bool, Error> {
+pub fn fails_cleanly<R: AllocGlobal>(
+    rt: &R,
+    earlier: Earlier,
+    number: u64,
+    clean: &[File],
+) -> Result<bool, Error> {
     let mut tree = edited(rt, earlier)?;
     let mut numbers = Vec::new(rt.alloc());
     numbers.push(number as u32)?;
@@ -125,5 +139,5 @@ pub fn fails_cleanly<R: AllocGlobal>(rt: &R, earlier: Earlier, number: u64) -> R
         return Ok(false);
     }
     tree.fail_calls(Vec::new(rt.alloc()));
-    is_clean_once_built(rt, &mut tree)
+    is_clean_once_built(rt, &mut tree, clean)
 }

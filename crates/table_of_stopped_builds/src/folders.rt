@@ -30,8 +30,6 @@ pub fn files_of(alloc: Global, tree: &mut MemTree) -> Result<Vec<File>, Error> {
 /// Whether two folders have the same files.
 pub fn have_same_files(files: &[File], others: &[File]) -> bool {
     files.len() == others.len()
-        && files
-            .iter()
-            .zip(others.iter())
-            .all(|(file, other)| file.name == other.name && file.bytes == other.bytes)
+        && files.iter().zip(others.iter()).all(|(file, other)| file.name == other.name
+            && file.bytes == other.bytes)
 }

@@ -16,7 +16,8 @@ const AREA: &[u8] =
 
 const MODULE: &[u8] = b"module M\ninternal let one Int\ninternal let two Int\n";
 
-const RECORD: &[u8] = b"{\"files\":{\"a.swift\":[1,0,12,\"clean\"],\"b.swift\":[1,0,20,\"clean\"]},\"map\":null,\"module\":\"M\",\"version\":1}";
+const RECORD: &[u8] =
+    b"{\"files\":{\"a.swift\":[1,0,12,\"clean\"],\"b.swift\":[1,0,20,\"clean\"]},\"map\":null,\"module\":\"M\",\"version\":1}";
 
 const DIRTY_RECORD: &[u8] =
     b"{\"files\":{\"a.swift\":[1,0,54,\"dirty\"]},\"map\":null,\"module\":\"M\",\"version\":1}";
