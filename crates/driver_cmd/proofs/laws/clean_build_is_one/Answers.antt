@@ -1,5 +1,5 @@
 use Rattle.driver_cmd.proofs.CleanLemmas.{one_clean}
 use Rattle.driver_cmd.proofs.laws.clean_build_is_one.Goals as goal
 
-pub returns-clause-one : goal.returns-clause-one
-returns-clause-one c = one_clean
+pub returns : goal.returns
+returns c = record { one = one_clean }
