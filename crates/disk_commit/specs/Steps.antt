@@ -11,7 +11,3 @@ removals names = map (λ name. Remove name) names
 -- each of these files is written
 abbrev pub writes : List File → List Call
 writes files = map (λ file. Write file.name file.bytes) files
-
--- these names are removed, these files are written, and all is synced
-abbrev pub replacing : List (List ℕ) → List File → List Call
-replacing names files = removals names ++ (writes files ++ Sync ∷ [])

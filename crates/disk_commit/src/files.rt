@@ -1,18 +1,15 @@
-ghost use Rattle.std.specs.Prelude.{◌≡◌, ◌≤◌, List, ℕ, All, IsTrue, OnOk, OnErr, IfOk, IfSome, IsErrOf, option_map};
+ghost use Rattle.std.specs.Prelude.{◌≡◌, ◌≤◌, List, ℕ, All, IsTrue, OnOk, OnErr, IfOk, option_map};
 ghost use Rattle.std.specs.BTreeSet as sets;
-ghost use Rattle.std.specs.FinMap as finite;
 ghost use Rattle.std.specs.Ordering.{nat_cmp};
 ghost use Rattle.std.specs.Cmp.Lexicographic.{slice_cmp};
 ghost use Rattle.drv_outside.specs.Faults.{CountRose};
 ghost use Rattle.drv_outside.specs.Moments.{Stops, all_done};
 ghost use Rattle.drv_outside.specs.Plain.{is_plain_name};
 ghost use Rattle.disk_images.specs.Laws.{committing, withdrawal};
-ghost use Rattle.drv_outside.specs.IfObserved.{IfObserved};
-ghost use Rattle.drv_outside.specs.declared.types.TreeEnd.{TreeEnd};
-ghost use Rattle.disk_commit.specs.Files.{is_named, replaced, unwanted, exactly, folder_of};
-ghost use Rattle.disk_commit.specs.Steps.{removals, replacing, writes};
+ghost use Rattle.disk_commit.specs.Files.{is_named, unwanted};
+ghost use Rattle.disk_commit.specs.Steps.{removals, writes};
 
-use drv_outside::{Fault, Name, Text, Tree, TreeEnd};
+use drv_outside::{Fault, Name, Text, Tree};
 use std::alloc::{AllocError, Global};
 use std::collections::BTreeSet;
 
@@ -94,7 +91,11 @@ fn names_of(alloc: Global, files: &[File]) -> Result<BTreeSet<Name>, AllocError>
 }
 
 /// The names that none of these files has, in their order.
-pub fn unwanted(alloc: Global, names: &[Name], files: &[File]) -> Result<Vec<Name>, AllocError>
+pub(crate) fn unwanted(
+    alloc: Global,
+    names: &[Name],
+    files: &[File],
+) -> Result<Vec<Name>, AllocError>
     requires plain { All (λ name. IsTrue (is_plain_name name)) names.now }
     ensures left { IfOk result (λ left. left.items ≡ unwanted files.now names.now) }
     ensures plain { IfOk result (λ left. All (λ name. IsTrue (is_plain_name name)) left.items) }
@@ -107,50 +108,4 @@ pub fn unwanted(alloc: Global, names: &[Name], files: &[File]) -> Result<Vec<Nam
         }
     }
     Ok(left)
-}
-
-/// Removes these names, writes these files, each in order, and syncs.
-pub fn replace<T: Tree>(tree: &mut T, removals: &[Name], files: &[File]) -> Result<(), Fault>
-    requires plain_names { All (λ name. IsTrue (is_plain_name name)) removals.now }
-    requires plain_files { All (λ file. IsTrue (is_plain_name file.name)) files.now }
-    ensures replaced { OnOk result (T.observed tree.new ≡ option_map (replaced removals.now files.now) (T.observed tree.old)) }
-    ensures stops { OnErr result (Stops (replacing removals.now files.now) (T.observed tree.old) (T.observed tree.new)) }
-    ensures count { T.faults tree.old ≤ T.faults tree.new }
-    ensures ok_count { OnOk result (T.faults tree.new ≡ T.faults tree.old) }
-    ensures cause { OnErr result (CountRose (T.faults tree.old) (T.faults tree.new)) }
-{
-    sweep(tree, removals)?;
-    place(tree, files)?;
-    tree.sync()?;
-    Ok(())
-}
-
-/// Removes the names that none of these files has, writes the files in order, and syncs. Where
-/// `names` are all names of the build folder, these files alone are left in it.
-///
-/// It takes memory only before its first call. `NoMemory` says that no call was made.
-pub fn leave_exactly<T: Tree>(
-    alloc: Global,
-    tree: &mut T,
-    names: &[Name],
-    files: &[File],
-) -> Result<(), TreeEnd>
-    requires plain_names { All (λ name. IsTrue (is_plain_name name)) names.now }
-    requires plain_files { All (λ file. IsTrue (is_plain_name file.name)) files.now }
-    ensures exactly { OnOk result (T.observed tree.new ≡ option_map (exactly names.now files.now) (T.observed tree.old)) }
-    // Where these are all names of the folder, these files alone are left.
-    ensures folder { OnOk result (IfSome (T.observed tree.old) (λ t. names.now ≡ finite.keys t.folder)
-        → IfObserved (T.observed tree.old) (T.observed tree.new) (λ t u. u.folder ≡ folder_of files.now)) }
-    ensures no_call { IsErrOf result TreeEnd.NoMemory → T.observed tree.new ≡ T.observed tree.old }
-    ensures stops { IsErrOf result TreeEnd.Failed → Stops (replacing (unwanted files.now names.now) files.now) (T.observed tree.old) (T.observed tree.new) }
-    ensures count { T.faults tree.old ≤ T.faults tree.new }
-    ensures ok_count { OnOk result (T.faults tree.new ≡ T.faults tree.old) }
-    ensures no_memory_count { IsErrOf result TreeEnd.NoMemory → T.faults tree.new ≡ T.faults tree.old }
-    ensures cause { IsErrOf result TreeEnd.Failed → CountRose (T.faults tree.old) (T.faults tree.new) }
-{
-    let unwanted = unwanted(alloc, names, files)?;
-    match replace(tree, &unwanted, files) {
-        Ok(()) => Ok(()),
-        Err(Fault) => Err(TreeEnd::Failed),
-    }
 }

@@ -8,7 +8,7 @@ mod files;
 mod laws;
 
 pub use change::change_folder;
-pub use files::{File, commit, leave_exactly, place, replace, sweep, unwanted, withdraw};
+pub use files::{File, commit, place, sweep, withdraw};
 pub use laws::change_is_safe;
 
 #[cfg(test)]

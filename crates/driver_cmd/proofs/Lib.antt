@@ -1,6 +1,4 @@
-pub mod ParsedLemmas
-pub mod OutcomeLemmas
-pub mod CallLemmas
-pub mod BuildLemmas
-pub mod DrivenLemmas
+pub mod ProjectLemmas
 pub mod CleanLemmas
+pub mod DrivenLemmas
+pub mod CommandLemmas

@@ -1,7 +1,6 @@
 pub mod Driven
 pub mod Command
 pub mod Clean
-pub mod Parsed
-pub mod Calls
-pub mod ReadSources
+pub mod Trusted
+pub mod Projects
 pub mod Printed

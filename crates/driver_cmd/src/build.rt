@@ -1,62 +1,40 @@
-ghost use Rattle.std.specs.Prelude.{◌≡◌, ◌⊎◌, ℕ, List, All, IsOk, IsTrue, IfOk, IfErr, IfSome, OnOk};
+ghost use Rattle.std.specs.Prelude.{◌≡◌, ◌⊎◌, ℕ, List, Ok, IsTrue, IfOk, IfErr, IfSome, OnOk};
 ghost use Rattle.drv_outside.specs.Faults.{CountRose};
-ghost use Rattle.drv_outside.specs.Plain.{is_plain_path};
-ghost use Rattle.drv_outside.specs.Reads.{OnlyReads};
 ghost use Rattle.drv_outside.specs.IfObserved.{IfObserved};
-ghost use Rattle.diag_text.specs.Line.{lines_of};
-ghost use Rattle.disk_commit.specs.Files.{folder_of};
-ghost use Rattle.swift_ast.specs.declared.declarations.FileTree.{FileTree};
-ghost use Rattle.driver_cmd.specs.Calls.{AreSynced, PassedCalls, ReadsPass};
-ghost use Rattle.driver_cmd.specs.Clean.{LeavesCleanBuild, module_errors, module_objects};
+ghost use Rattle.drv_outside.specs.Reads.{OnlyReads};
+ghost use Rattle.output_names.specs.ModuleNames.{is_module_name};
+ghost use Rattle.project_sources.specs.Calls.{ReadsPass};
+ghost use Rattle.project_sources.specs.Reading.{IsListed, ListsPlainPaths};
+ghost use Rattle.project_sources.specs.declared.reading.Listing.TheVariants as listing;
+ghost use Rattle.driver_cmd.specs.Clean.{LeavesCleanBuild};
 ghost use Rattle.driver_cmd.specs.Command.{request_of};
 ghost use Rattle.driver_cmd.specs.Driven.{Driven, outside};
 ghost use Rattle.driver_cmd.specs.Printed.{Printed};
-ghost use Rattle.driver_cmd.specs.ReadSources.{IsOfFiles, IsReadFrom, HasPlainPaths};
+ghost use Rattle.driver_cmd.specs.Projects.{AreInOrder, Builds, IsInOrder, IsReadFrom, StopsBuilding};
+ghost use Rattle.driver_cmd.specs.Trusted.{StaysTrusted};
 
-use crate::listing::{listing_errors, too_large_errors};
-use crate::outputs::{error_lines, objects};
-use crate::sources::{Files, Sorted, read_files, sort_out};
-use decl_index::Index;
 use diag_text::{Diag, lines};
-use disk_commit::{File, leave_exactly};
-use drv_outside::{NoMemory, Sink, Status, Tree};
-use frontend::{Parsed, check_module};
+use driver_build::{Made, make_outputs, replace_folder};
+use drv_outside::{Entry, Sink, Status, Tree};
+use project_sources::{Listing, Sources, list_sources, read_sources};
 use std::alloc::Global;
 use swift_ast::FileTree;
 
 /// What was read of a project.
 #[derive(Drop)]
-enum ReadSources {
+enum Project {
     /// The errors of its list of sources, or of its files without a tree.
     Refused(Vec<Diag>),
 
-    /// The trees of its files.
-    Trees(Vec<FileTree>),
+    /// Its sources and their trees, by path.
+    Read(Vec<Entry>, Vec<FileTree>),
 }
 
-/// What a build makes before it writes.
-#[derive(Drop)]
-struct Outputs {
-    objects: Vec<File>,
-    lines: Vec<u8>,
-}
-
-// What the files of a project are: the errors of those without a tree, or the trees of all.
-fn project_of(alloc: Global, files: Vec<Parsed>) -> Result<ReadSources, NoMemory>
-    ensures { IfOk result (λ project. IsOfFiles files.items project) }
-{
-    let Sorted { errors, trees } = sort_out(alloc, files)?;
-    if errors.is_empty() {
-        Ok(ReadSources::Trees(trees))
-    } else {
-        Ok(ReadSources::Refused(errors))
-    }
-}
-
-// Reads the sources, as far as there are no errors in their list.
-fn read_project<T: Tree>(alloc: Global, tree: &mut T) -> Result<ReadSources, Status>
-    ensures project { IfOk result (λ project. IfSome (T.observed tree.old) (λ t. IsReadFrom t.sources project)) }
-    ensures plain { IfOk result HasPlainPaths }
+// Reads the listed sources.
+fn read_listed<T: Tree>(alloc: Global, tree: &mut T, entries: Vec<Entry>) -> Result<Project, Status>
+    requires plain { ListsPlainPaths (listing.Listed entries) }
+    ensures project { IfOk result (λ project. IfSome (T.observed tree.old) (λ t. IsListed t.sources (listing.Listed entries) → IsReadFrom t.sources project)) }
+    ensures ordered { IfOk result IsInOrder }
     ensures passed { OnOk result (ReadsPass (T.observed tree.old) (T.observed tree.new)) }
     ensures reads { OnlyReads (T.observed tree.old) (T.observed tree.new) }
     ensures ok_count { OnOk result (T.faults tree.new ≡ T.faults tree.old) }
@@ -64,63 +42,63 @@ fn read_project<T: Tree>(alloc: Global, tree: &mut T) -> Result<ReadSources, Sta
     ensures tree_fault { IfErr result (λ status. status ≡ Status.TreeFault → CountRose (T.faults tree.old) (T.faults tree.new)) }
     ensures ends { IfErr result (λ status. (status ≡ Status.TreeFault) ⊎ (status ≡ Status.NoMemory)) }
 {
-    let entries = tree.list(alloc)?;
-    let errors = listing_errors(alloc, &entries)?;
-    if !errors.is_empty() {
-        return Ok(ReadSources::Refused(errors));
-    }
-    match read_files(alloc, tree, &entries)? {
-        Files::TooLarge => {
-            let errors = too_large_errors(alloc)?;
-            Ok(ReadSources::Refused(errors))
-        }
-        Files::Parsed(files) => {
-            let project = project_of(alloc, files)?;
-            Ok(project)
-        }
+    match read_sources(alloc, tree, &entries)? {
+        Sources::Refused(errors) => Ok(Project::Refused(errors)),
+        Sources::Trees(trees) => Ok(Project::Read(entries, trees)),
     }
 }
 
-// Makes all that a build of these files writes and prints.
-fn make_outputs(alloc: Global, files: Vec<FileTree>) -> Result<Outputs, NoMemory>
-    requires { All (λ (file : FileTree). IsTrue (is_plain_path file.path)) files.items }
-    ensures objects { IfOk result (λ outputs. outputs.objects.items ≡ module_objects files.items) }
-    ensures lines { IfOk result (λ outputs. outputs.lines.items ≡ lines_of (module_errors files.items)) }
+// Reads the sources, as far as there are no errors in their list.
+fn read_project<T: Tree>(alloc: Global, tree: &mut T) -> Result<Project, Status>
+    ensures project { IfOk result (λ project. IfSome (T.observed tree.old) (λ t. IsReadFrom t.sources project)) }
+    ensures ordered { IfOk result IsInOrder }
+    ensures passed { OnOk result (ReadsPass (T.observed tree.old) (T.observed tree.new)) }
+    ensures reads { OnlyReads (T.observed tree.old) (T.observed tree.new) }
+    ensures ok_count { OnOk result (T.faults tree.new ≡ T.faults tree.old) }
+    ensures no_memory_count { IfErr result (λ status. status ≡ Status.NoMemory → T.faults tree.new ≡ T.faults tree.old) }
+    ensures tree_fault { IfErr result (λ status. status ≡ Status.TreeFault → CountRose (T.faults tree.old) (T.faults tree.new)) }
+    ensures ends { IfErr result (λ status. (status ≡ Status.TreeFault) ⊎ (status ≡ Status.NoMemory)) }
 {
-    let index = Index::new(alloc, files)?;
-    let outcomes = check_module(alloc, &index)?;
-    let lines = error_lines(alloc, &outcomes)?;
-    let objects = objects(alloc, index.files(), outcomes)?;
-    Ok(Outputs { objects, lines })
+    match list_sources(alloc, tree)? {
+        Listing::Refused(errors) => Ok(Project::Refused(errors)),
+        Listing::Listed(entries) => read_listed(alloc, tree, entries),
+    }
 }
 
-// Leaves the objects of these files in the build folder, and answers with their error lines.
+// Puts the outputs of a module in the place of what stands in the build folder, and answers with its error lines.
 fn build_module<T: Tree>(
     alloc: Global,
     tree: &mut T,
-    files: Vec<FileTree>,
+    name: &str,
+    entries: Vec<Entry>,
+    trees: Vec<FileTree>,
 ) -> Result<Vec<u8>, Status>
-    requires { All (λ (file : FileTree). IsTrue (is_plain_path file.path)) files.items }
-    ensures lines { IfOk result (λ lines. lines.items ≡ lines_of (module_errors files.items)) }
-    ensures folder { OnOk result (IfObserved (T.observed tree.old) (T.observed tree.new) (λ t u. u.folder ≡ folder_of (module_objects files.items))) }
-    ensures synced { OnOk result (IfObserved (T.observed tree.old) (T.observed tree.new) (PassedCalls AreSynced)) }
+    requires name { IsTrue (is_module_name name.now) }
+    requires ordered { AreInOrder entries.items trees.items }
+    ensures builds { IfOk result (λ lines. Builds name.now entries.items trees.items lines.items (T.observed tree.old) (T.observed tree.new)) }
+    ensures stops { IfErr result (λ status. status ≡ Status.TreeFault → StopsBuilding name.now entries.items trees.items (T.observed tree.old) (T.observed tree.new)) }
     ensures early { IfErr result (λ status. status ≡ Status.NoMemory → OnlyReads (T.observed tree.old) (T.observed tree.new)) }
     ensures ok_count { OnOk result (T.faults tree.new ≡ T.faults tree.old) }
     ensures no_memory_count { IfErr result (λ status. status ≡ Status.NoMemory → T.faults tree.new ≡ T.faults tree.old) }
     ensures tree_fault { IfErr result (λ status. status ≡ Status.TreeFault → CountRose (T.faults tree.old) (T.faults tree.new)) }
     ensures ends { IfErr result (λ status. (status ≡ Status.TreeFault) ⊎ (status ≡ Status.NoMemory)) }
 {
-    let Outputs { objects, lines } = make_outputs(alloc, files)?;
-    let names = tree.names(alloc)?;
-    match leave_exactly(alloc, tree, &names, &objects) {
+    let Made {
+        names,
+        files,
+        lines,
+    } = make_outputs(alloc, name, entries, trees)?;
+    match replace_folder(alloc, tree, &names, &files) {
         Ok(()) => Ok(lines),
-        Err(end) => Err(Status::from(end)),
+        Err(status) => Err(status),
     }
 }
 
 // Leaves the clean build of the sources in the build folder, and answers with its error lines.
-fn build_project<T: Tree>(alloc: Global, tree: &mut T) -> Result<Vec<u8>, Status>
-    ensures clean { IfOk result (λ lines. IfObserved (T.observed tree.old) (T.observed tree.new) (LeavesCleanBuild lines.items (T.observed tree.old) (T.observed tree.new))) }
+fn build_project<T: Tree>(alloc: Global, tree: &mut T, name: &str) -> Result<Vec<u8>, Status>
+    requires name { IsTrue (is_module_name name.now) }
+    ensures clean { IfOk result (λ lines. IfObserved (T.observed tree.old) (T.observed tree.new) (LeavesCleanBuild name.now lines.items (T.observed tree.old) (T.observed tree.new))) }
+    ensures trusted { StaysTrusted name.now (T.observed tree.old) (T.observed tree.new) }
     ensures early { IfErr result (λ status. status ≡ Status.NoMemory → OnlyReads (T.observed tree.old) (T.observed tree.new)) }
     ensures ok_count { OnOk result (T.faults tree.new ≡ T.faults tree.old) }
     ensures no_memory_count { IfErr result (λ status. status ≡ Status.NoMemory → T.faults tree.new ≡ T.faults tree.old) }
@@ -128,14 +106,11 @@ fn build_project<T: Tree>(alloc: Global, tree: &mut T) -> Result<Vec<u8>, Status
     ensures ends { IfErr result (λ status. (status ≡ Status.TreeFault) ⊎ (status ≡ Status.NoMemory)) }
 {
     match read_project(alloc, tree)? {
-        ReadSources::Refused(errors) => {
+        Project::Refused(errors) => {
             let printed = lines(alloc, &errors)?;
             Ok(printed.into_vec())
         }
-        ReadSources::Trees(files) => {
-            let lines = build_module(alloc, tree, files)?;
-            Ok(lines)
-        }
+        Project::Read(entries, trees) => build_module(alloc, tree, name, entries, trees),
     }
 }
 
@@ -152,14 +127,15 @@ fn print<K: Sink>(lines: &[u8], out: &mut K) -> Status
     }
 }
 
-/// Builds the project of a tree, and prints its error lines.
-pub fn build<T: Tree, K: Sink>(alloc: Global, tree: &mut T, out: &mut K) -> Status
-    // What is promised of a call with accepted words.
-    ensures { (words : List (List ℕ)) → IsOk (request_of words)
+/// Builds a module from the sources of a tree, and prints its error lines.
+pub fn build<T: Tree, K: Sink>(alloc: Global, name: &str, tree: &mut T, out: &mut K) -> Status
+    requires name { IsTrue (is_module_name name.now) }
+    // What is promised of a call whose words ask for this module.
+    ensures { (words : List (List ℕ)) → request_of words ≡ Ok name.now
         → Driven words (outside (T.observed tree.old) (T.faults tree.old) (K.contents out.old) (K.faults out.old))
         (outside (T.observed tree.new) (T.faults tree.new) (K.contents out.new) (K.faults out.new)) result }
 {
-    match build_project(alloc, tree) {
+    match build_project(alloc, tree, name) {
         Ok(lines) => print(&lines, out),
         Err(status) => status,
     }

@@ -5,9 +5,6 @@
 mod build;
 mod command;
 mod laws;
-mod listing;
-mod outputs;
-mod sources;
 mod top_call;
 
 pub use command::{folder_name, read_request};

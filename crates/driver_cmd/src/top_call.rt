@@ -7,9 +7,11 @@ use drv_outside::{JobGate, Sink, Status, Text, Tree};
 /// Does what the words of a command ask, over a tree, on one thread. The error lines go to `out` by
 /// one call.
 ///
-/// The one command is `build -module-name MODULE`. It leaves the clean build of the tree's sources
-/// in the build folder: the object of each file without errors, and no other name. Where the list
-/// of sources is refused, or a source has no tree, the folder is left as it was.
+/// The one command is `build -module-name MODULE`. It leaves the clean build of the module of the
+/// tree's sources in the build folder: of each file without errors the object, the partial text and
+/// the dependency file, where no file has errors the merged module and the image, the priors, the
+/// record and the gate, and no other name. Where the list of sources is refused, or a source has no
+/// tree, the folder is left as it was.
 pub fn drive_alone<R: AllocGlobal, T: Tree, K: Sink>(
     rt: &R,
     words: &[Text],
@@ -21,7 +23,7 @@ pub fn drive_alone<R: AllocGlobal, T: Tree, K: Sink>(
         (outside (T.observed tree.new) (T.faults tree.new) (K.contents out.new) (K.faults out.new)) result }
 {
     match read_request(words) {
-        Ok(_) => build(rt.alloc(), tree, out),
+        Ok(name) => build(rt.alloc(), name, tree, out),
         Err(at) => Status::Usage { at },
     }
 }

@@ -1,2 +1,1 @@
 pub mod ParsingLemmas
-pub mod OutcomeLemmas

@@ -4,3 +4,4 @@ pub mod Module
 pub mod Object
 pub mod Image
 pub mod Ends
+pub mod Laws

@@ -7,6 +7,7 @@
 mod by_path;
 mod ends;
 mod image_text;
+mod laws;
 mod lines;
 mod linking;
 mod module;
@@ -16,5 +17,6 @@ mod symbols;
 pub use drv_outside::{NoMemory, Text};
 pub use ends::MergeEnd;
 pub use image_text::image;
+pub use laws::{linking_is_of_any_order, merged_texts_are_one};
 pub use module::{is_partial, merged_module};
 pub use object::is_object;

@@ -13,3 +13,4 @@ pub mod Steps
 pub mod Taking
 pub mod TextLaws
 pub mod WriteLaws
+pub mod OneSpellingLaws

@@ -1,5 +1,5 @@
 -- The one spelling that is written.
-use Rattle.std.specs.Prelude.{◌≡◌, ◌↔◌, ◌⊎◌, ℕ, ◌==◌, ◌&&◌, if◌then◌else◌, Bool, IsTrue, List, [], ◌∷◌, ◌++◌, length, map, Some, None}
+use Rattle.std.specs.Prelude.{◌≡◌, ◌↔◌, ◌⊎◌, ◌<◌, ℕ, ◌==◌, ◌&&◌, if◌then◌else◌, Bool, IsTrue, List, [], ◌∷◌, ◌++◌, length, map, Some, None}
 use Rattle.std.specs.List.{flat_map, list_all, Contains, AllByRecursion}
 use Rattle.bitstream.specs.declared.item.AbbrevOp.{AbbrevOp}
 use Rattle.bitstream.specs.declared.item.AbbrevOp.TheVariants.{Literal, Blob}
@@ -75,8 +75,12 @@ begun_block = defined print_ops (defined identifier_ops (entered RECORD_BLOCK_ID
 abbrev pub records : ℕ → List (List ℕ) → List FileGraph → List Seen
 records version names files = Record METADATA (version ∷ []) None ∷ (map identifier_item names ++ flat_map (file_items names) files)
 
+abbrev pub IsByte : ℕ → Type 0
+IsByte byte = byte < 256
+
 -- The bytes have the bits of the block, with all records, to its end.
 pub record IsStream (version : ℕ) (files : List FileGraph) (stream : List ℕ) : Type 0 where
+  pub bytes : AllByRecursion IsByte stream
   pub names : List (List ℕ)
   pub are_names : AreNamesOf files names
   pub ended : Writing

@@ -7,6 +7,7 @@ ghost use Rattle.swiftdeps.specs.Fronts.{IsFirstFault};
 ghost use Rattle.swiftdeps.specs.Spelling.{BytesSpell};
 ghost use Rattle.swiftdeps.specs.Stages.{is_version};
 ghost use Rattle.swiftdeps.specs.Streams.{bytes_judged};
+ghost use Rattle.swiftdeps.specs.Written.{IsWritten};
 
 /// Bytes spell one version and one list of file graphs at most.
 pub fn bytes_spell_one_list()
@@ -17,4 +18,9 @@ pub fn bytes_spell_one_list()
 /// begins with the items before it. Where there is no such item it is told at the end.
 pub fn no_accepted_list_goes_on_at_the_first_fault()
     ensures { (is_single : Bool) (bytes : List ℕ) (fault : DepsFault) → bytes_judged is_single bytes ≡ Err fault → IsFirstFault is_single bytes fault }
+{}
+
+/// File graphs have one written spelling.
+pub fn written_is_one()
+    ensures { (version : ℕ) (files : List FileGraph) (one other : List ℕ) → IsWritten version files one → IsWritten version files other → one ≡ other }
 {}

@@ -20,7 +20,7 @@ mod writing;
 
 pub use dep_key::{FileGraph, NoMemory, Text};
 pub use fault::{DEPENDENCIES_VERSION, DepsFault, Header, PRIORS_VERSION};
-pub use laws::{bytes_spell_one_list, no_accepted_list_goes_on_at_the_first_fault};
+pub use laws::{bytes_spell_one_list, no_accepted_list_goes_on_at_the_first_fault, written_is_one};
 pub use reading::{decode, read_all};
 pub use shapes::is_writable;
 pub use writing::{encode, encode_all};

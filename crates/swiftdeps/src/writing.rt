@@ -1,14 +1,14 @@
 //! The one spelling that is written.
 
 ghost use Rattle.std.specs.Prelude.{◌≡◌, ◌∷◌, [], OnOk, IfOk, Some, None, map, IsTrue, false};
-ghost use Rattle.std.specs.List.{flat_map};
+ghost use Rattle.std.specs.List.{AllByRecursion, flat_map};
 ghost use Rattle.bitstream.specs.Reading.{Record, Enters};
 ghost use Rattle.bitstream.specs.Writer.{writing};
 ghost use Rattle.swiftdeps.specs.declared.codes.TheConstants.{RECORD_BLOCK_ID, FINGERPRINT, IDENTIFIER};
 ghost use Rattle.swiftdeps.specs.Stages.{is_version};
 ghost use Rattle.swiftdeps.specs.Spelling.{BytesSpell, key_numbers, node_items, file_items, identifier_item};
 ghost use Rattle.swiftdeps.specs.Shown.{Shows, AlsoShows, StandsForSpelling};
-ghost use Rattle.swiftdeps.specs.Written.{InBlock, IsStream, IsWritten, IsWritable, AreWritable, with_items, records, begun_block};
+ghost use Rattle.swiftdeps.specs.Written.{InBlock, IsByte, IsStream, IsWritten, IsWritable, AreWritable, with_items, records, begun_block};
 
 use crate::codes::{
     FILE, FINGERPRINT, FINGERPRINT_ABBREV, ID_WIDTH, IDENTIFIER, IDENTIFIER_ABBREV, METADATA, NODE,
@@ -115,6 +115,11 @@ fn begin(alloc: Global) -> Result<BitWriter, NoMemory>
     Ok(writer)
 }
 
+/// The elements of a slice of bytes are bytes.
+fn are_bytes(bytes: &[u8])
+    ensures { AllByRecursion IsByte bytes.now }
+{}
+
 /// The bits of the block, with all records, to its end.
 fn write_block(alloc: Global, version: u64, files: &[FileGraph]) -> Result<Vec<u8>, NoMemory>
     ensures written { IfOk result (λ stream. IsStream version files.now stream.items) }
@@ -126,7 +131,9 @@ fn write_block(alloc: Global, version: u64, files: &[FileGraph]) -> Result<Vec<u
     put_identifiers(&mut writer, &names)?;
     put_files(&mut writer, &names, files)?;
     writer.leave()?;
-    Ok(writer.into_bytes().into_vec())
+    let stream = writer.into_bytes().into_vec();
+    are_bytes(&stream);
+    Ok(stream)
 }
 
 fn write(alloc: Global, version: u64, files: &[FileGraph]) -> Result<Text, NoMemory>

@@ -4,13 +4,10 @@ use crate::modules::{Module, Source};
 use crate::nodes::put_graph;
 use anyhow::{Error, anyhow};
 use decl_index::Index;
-use decl_meaning::{Meanings, settle};
-use dep_key::{FileNo, NoMemory, Path};
+use dep_key::{NoMemory, Path};
 use diag_text::{Diag, lines};
-use file_check::check_file;
-use file_nodes::graph;
-use frontend::{Outcome, Parsed, check_module, parse};
-use iface_print::partial_text;
+use frontend::{Parsed, parse};
+use module_compile::{CompiledFile, FileTexts, Outcome, compile_module};
 use std::alloc::Global;
 use swift_ast::FileTree;
 
@@ -61,24 +58,17 @@ fn put_part(
     Ok(())
 }
 
-// Puts what a file comes to.
-fn put_outcome(
-    alloc: Global,
-    parts: &mut Parts,
-    index: &Index,
-    meanings: &Meanings<'_>,
-    number: FileNo,
-    path: &str,
-    outcome: &Outcome,
-) -> Result<(), NoMemory> {
-    match outcome {
+// Puts what a compiled file comes to, and its nodes.
+fn put_file(alloc: Global, parts: &mut Parts, file: &CompiledFile) -> Result<(), NoMemory> {
+    let path = file.graph.path.as_str();
+    match &file.outcome {
         Outcome::Errors(found) => {
             let printed = lines(alloc, found.as_slice())?;
             parts.errors.extend_from_slice(printed.as_slice())?;
         }
-        Outcome::Object(text) => {
-            let partial = partial_text(alloc, meanings, index, number)?;
-            put_part(alloc, &mut parts.objects, "object", path, text.as_slice())?;
+        Outcome::Texts(texts) => {
+            let FileTexts { object, partial } = texts;
+            put_part(alloc, &mut parts.objects, "object", path, object.as_slice())?;
             put_part(
                 alloc,
                 &mut parts.partials,
@@ -88,21 +78,7 @@ fn put_outcome(
             )?;
         }
     }
-    Ok(())
-}
-
-// Puts the nodes of a file.
-fn put_nodes(
-    alloc: Global,
-    parts: &mut Parts,
-    index: &Index,
-    meanings: &Meanings<'_>,
-    number: FileNo,
-    file: &FileTree,
-) -> Result<(), NoMemory> {
-    let checked = check_file(alloc, meanings, file)?;
-    let graph = graph(alloc, meanings, index, number, &checked.uses)?;
-    put_graph(&mut parts.nodes, &graph)
+    put_graph(&mut parts.nodes, &file.graph)
 }
 
 fn parts_of(alloc: Global, index: &Index) -> Result<Parts, NoMemory> {
@@ -112,23 +88,8 @@ fn parts_of(alloc: Global, index: &Index) -> Result<Parts, NoMemory> {
         partials: Vec::new(alloc),
         nodes: Vec::new(alloc),
     };
-    let outcomes = check_module(alloc, index)?;
-    let meanings = settle(alloc, index)?;
-    let mut number: FileNo = 0;
-    for (file, outcome) in index.files().iter().zip(outcomes.iter()) {
-        put_outcome(
-            alloc,
-            &mut parts,
-            index,
-            &meanings,
-            number,
-            file.path.as_str(),
-            outcome,
-        )?;
-        put_nodes(alloc, &mut parts, index, &meanings, number, file)?;
-        if number < FileNo::MAX {
-            number += 1;
-        }
+    for file in &compile_module(alloc, index)? {
+        put_file(alloc, &mut parts, file)?;
     }
     Ok(parts)
 }

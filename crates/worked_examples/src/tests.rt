@@ -1,7 +1,7 @@
 use crate::project::{built, bytes_of, count, put, status_of, tree_with};
 use driver_cmd::Status;
 use std::test::Fail;
-use tree_mem::MemSink;
+use tree_mem::{MemSink, MemTree};
 
 const ONE: &[u8] =
     b"object a.swift\nglobal one 1\nfunc one:init 0 0 0\n int 1\n store one 0 1\n return 0\nend\n";
@@ -14,6 +14,16 @@ const SIZE: &[u8] = b"object Size.swift\nfunc Size:init 1 1 1\n get 0 1\n return
 const AREA: &[u8] =
     b"object Area.swift\nfunc Size:area 1 1 1\n get 0 1\n field 0 1 1\n int 2\n mul\n return 1\nend\nfunc run 0 0 0\n int 3\n call Size:init 1 1\n call Size:area 1 1\n print.Int\n return 0\nend\n";
 
+const MODULE: &[u8] = b"module M\ninternal let one Int\ninternal let two Int\n";
+
+const RECORD: &[u8] =
+    b"{\"files\":{\"a.swift\":[1,0,12,\"clean\"],\"b.swift\":[1,0,20,\"clean\"]},\"map\":null,\"module\":\"M\",\"version\":1}";
+
+const DIRTY_RECORD: &[u8] =
+    b"{\"files\":{\"a.swift\":[1,0,54,\"dirty\"]},\"map\":null,\"module\":\"M\",\"version\":1}";
+
+const OPEN_GATE: &[u8] = &[1];
+
 #[test]
 fn objects_are_left(rt: HostRuntime) -> Result<(), Fail> {
     let alloc = rt.alloc();
@@ -22,9 +32,22 @@ fn objects_are_left(rt: HostRuntime) -> Result<(), Fail> {
     let mut out = MemSink::new(alloc);
     assert!(rt; built(&rt, &mut tree, &mut out)? == Status::Done);
     assert!(rt; out.bytes().is_empty());
-    assert!(rt; count(alloc, &mut tree)? == 2);
+    assert!(rt; count(alloc, &mut tree)? == 11);
     assert!(rt; bytes_of(alloc, &mut tree, "a.o")?.as_slice() == ONE);
     assert!(rt; bytes_of(alloc, &mut tree, "b.o")?.as_slice() == TWO);
+    assert!(rt; bytes_of(alloc, &mut tree, "M.swiftmodule")?.as_slice() == MODULE);
+    assert!(rt; bytes_of(alloc, &mut tree, "M.record.json")?.as_slice() == RECORD);
+    assert!(rt; bytes_of(alloc, &mut tree, "M.gate")?.as_slice() == OPEN_GATE);
+    Ok(())
+}
+
+#[test]
+fn a_module_without_sources_has_its_own_files(rt: HostRuntime) -> Result<(), Fail> {
+    let alloc = rt.alloc();
+    let mut tree = MemTree::new(alloc)?;
+    let mut out = MemSink::new(alloc);
+    assert!(rt; built(&rt, &mut tree, &mut out)? == Status::Done);
+    assert!(rt; count(alloc, &mut tree)? == 5);
     Ok(())
 }
 
@@ -62,7 +85,9 @@ fn errors_come_by_place(rt: HostRuntime) -> Result<(), Fail> {
     let lines =
         b"a.swift:1:11: error: cannot find 'missing' in scope\na.swift:2:29: error: cannot convert value of type 'String' to 'Int'\n";
     assert!(rt; out.bytes() == lines.as_slice());
-    assert!(rt; count(alloc, &mut tree)? == 0);
+    assert!(rt; count(alloc, &mut tree)? == 3);
+    assert!(rt; bytes_of(alloc, &mut tree, "M.record.json")?.as_slice() == DIRTY_RECORD);
+    assert!(rt; bytes_of(alloc, &mut tree, "M.gate")?.as_slice() == OPEN_GATE);
     Ok(())
 }
 
@@ -100,10 +125,10 @@ fn objects_of_removed_sources_go(rt: HostRuntime) -> Result<(), Fail> {
     put(&mut tree, "sub/b.swift", "let two = 2\n")?;
     let mut out = MemSink::new(alloc);
     assert!(rt; built(&rt, &mut tree, &mut out)? == Status::Done);
-    assert!(rt; count(alloc, &mut tree)? == 2);
+    assert!(rt; count(alloc, &mut tree)? == 11);
     assert!(rt; tree.remove_source("sub/b.swift"));
     assert!(rt; built(&rt, &mut tree, &mut out)? == Status::Done);
-    assert!(rt; count(alloc, &mut tree)? == 1);
+    assert!(rt; count(alloc, &mut tree)? == 8);
     Ok(())
 }
 

@@ -1,8 +1,5 @@
-use Rattle.driver_cmd.proofs.CleanLemmas.{has_clean, one_clean}
+use Rattle.driver_cmd.proofs.CleanLemmas.{one_clean}
 use Rattle.driver_cmd.proofs.laws.clean_build_is_one.Goals as goal
 
-pub returns-clause-exists : goal.returns-clause-exists
-returns-clause-exists c = has_clean
-
-pub returns-clause-one : goal.returns-clause-one
-returns-clause-one c = one_clean
+pub returns : goal.returns
+returns c = record { one = one_clean }

@@ -1,14 +1,17 @@
-use Rattle.std.proofs.Common.{[], ◌∷◌, length, None, ap, ◌∙◌}
+use Rattle.std.proofs.Common.{subst, ◌∙◌, sym, [], ◌∷◌, length, None, ap}
 use Rattle.bitstream.specs.Items.{items_in}
 use Rattle.bitstream.specs.Reading.{Record, LeaveBlock}
 use Rattle.bitstream.specs.Bits.{bits_of}
 use Rattle.bitstream.specs.Writer.{writing}
 use Rattle.swiftdeps.proofs.ShownLaws.{also_one, block_shown}
+use Rattle.std.specs.List.{AllByRecursion}
+use Rattle.swiftdeps.specs.Written.{IsByte}
 use Rattle.swiftdeps.proofs.WriteLaws.{block_written}
 use Rattle.swiftdeps.proofs.writing.write_block.Goals as goal
 
 pub returns-clause-written : goal.returns-clause-written
 returns-clause-written c = record {
+  bytes = subst (λ bs. AllByRecursion IsByte bs) c.deref.ensures.value c.are_bytes.ensures;
   names = c.in_ok-names.names;
   are_names = c.in_ok-names.ensures;
   ended = writing c.leave.new.self;
@@ -16,7 +19,7 @@ returns-clause-written c = record {
       c.in_ok-writer.ensures.written c.in_ok-put_rec.ensures.ok
       c.in_ok-put_identifiers.ensures.written c.in_ok-put_files.ensures.written
       c.in_ok-leave.ensures.ok;
-  bits = ap bits_of c.into_vec.ensures ∙ c.into_bytes.ensures.bits;
+  bits = ap bits_of c.into_vec-stream.ensures ∙ c.into_bytes.ensures.bits;
 }
 
 pub returns-clause-stands : goal.returns-clause-stands
@@ -35,6 +38,6 @@ returns-clause-stands c =
       names = names;
       are_names = c.in_ok-names.ensures;
       items = all.0;
-      read = ap items_in c.into_vec.ensures ∙ c.into_bytes.ensures.read_back all.0 all.1;
+      read = ap items_in c.into_vec-stream.ensures ∙ c.into_bytes.ensures.read_back all.0 all.1;
       spelled = all.2;
     }

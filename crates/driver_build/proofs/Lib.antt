@@ -1,0 +1,5 @@
+pub mod ReplacingLemmas
+pub mod NamesLemmas
+pub mod BuildingLemmas
+pub mod OutputsLemmas
+pub mod OneFolderLemmas

@@ -1,8 +1,0 @@
-use Rattle.std.proofs.Common.{◌≡◌, ◌++◌, drop}
-use Rattle.driver_cmd.specs.Clean.{not_plain_errors}
-use Rattle.driver_cmd.specs.Parsed.{entry_paths}
-use Rattle.driver_cmd.proofs.listing.not_plain_errors.Given as goal
-
--- The errors so far, and those of the entries that are left, are all.
-abbrev pub invariant-loop-entry : goal.invariant-loop-entry
-invariant-loop-entry l = l.errors.items ++ not_plain_errors (entry_paths (drop l.entry-index l.entries)) ≡ not_plain_errors (entry_paths l.entries)

@@ -1,0 +1,4 @@
+pub mod CallLemmas
+pub mod ParsedLemmas
+pub mod SourceLemmas
+pub mod UniqueLemmas

@@ -1,0 +1,4 @@
+pub mod WordLemmas
+pub mod LeafLemmas
+pub mod TreeLemmas
+pub mod ParsedLemmas
