@@ -1,11 +1,23 @@
 -- Why a file that no change reaches needn't be compiled again.
-use Rattle.std.specs.Prelude.{◌≡◌, ℕ, Bool, false, List}
+use Rattle.std.specs.Prelude.{◌≡◌, ℕ, Bool, false, not, List, filter}
 use Rattle.queries.specs.Queries.{Among}
+use Rattle.dep_key.specs.declared.key.Key.{Key}
+use Rattle.dep_key.specs.Moved.{uses_of}
 use Rattle.swift_ast.specs.declared.declarations.FileTree.{FileTree}
+use Rattle.type_infer.specs.Meanings.{meaning_in}
 use Rattle.type_infer.specs.Plain.{HasPlainNames}
-use Rattle.iface_print.specs.Coverage.{CoversChanges}
+use Rattle.iface_print.specs.Coverage.{IsUnmoved, CoversChanges}
 use Rattle.file_coverage.specs.Laws.{implementation}
-use Rattle.module_compile.specs.Compiled.{compiled_in}
+use Rattle.module_compile.specs.Compiled.{graph_with, compiled_in}
+
+-- The files outside are the same in both modules, and no key that a node of theirs uses has another print in a changed file.
+pub record LeavesTheRest (changed : List ℕ → Bool) (p s : List FileTree) : Type 0 where
+  pub same : filter (λ f. not (changed f.path)) p ≡ filter (λ f. not (changed f.path)) s
+  pub unmoved : (f : FileTree) → Among p f → changed f.path ≡ false → (key : Key) → Among (uses_of (graph_with (meaning_in p) f).nodes) key → IsUnmoved changed p s key
+
+-- What the graphs' uses tell is coverage.
+abbrev pub UsesOfNodesCover : Type 0
+UsesOfNodesCover = (changed : List ℕ → Bool) (p s : List FileTree) → LeavesTheRest changed p s → CoversChanges (implementation p) changed p s
 
 -- A file that hasn't changed, and of whose uses none has moved, is compiled to the same in both modules: errors, texts and graph.
 abbrev pub CoveredFilesAreAlike : Type 0

@@ -1,5 +1,9 @@
 use Rattle.module_coverage.proofs.Alike.{alike}
+use Rattle.module_coverage.proofs.Covers.{covered}
 use Rattle.module_coverage.proofs.module_coverage_laws.Goals as goal
 
-pub returns : goal.returns
-returns c = record { alike = alike }
+pub returns-clause-covered : goal.returns-clause-covered
+returns-clause-covered c = covered
+
+pub returns-clause-alike : goal.returns-clause-alike
+returns-clause-alike c = alike
