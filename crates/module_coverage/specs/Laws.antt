@@ -2,6 +2,7 @@
 use Rattle.std.specs.Prelude.{◌≡◌, ℕ, Bool, false, not, List, filter}
 use Rattle.queries.specs.Queries.{Among}
 use Rattle.dep_key.specs.declared.key.Key.{Key}
+use Rattle.dep_key.specs.Digests.{digested}
 use Rattle.dep_key.specs.Moved.{uses_of}
 use Rattle.swift_ast.specs.declared.declarations.FileTree.{FileTree}
 use Rattle.type_infer.specs.Meanings.{meaning_in}
@@ -10,12 +11,12 @@ use Rattle.iface_print.specs.Coverage.{IsUnmoved, CoversChanges}
 use Rattle.file_coverage.specs.Laws.{implementation}
 use Rattle.module_compile.specs.Compiled.{graph_with, compiled_in}
 
--- The files outside are the same in both modules, and no key that a node of theirs uses has another print in a changed file.
+-- The files outside are the same in both modules, and no key that a recorded node of theirs uses has another print in a changed file.
 pub record LeavesTheRest (changed : List ℕ → Bool) (p s : List FileTree) : Type 0 where
   pub same : filter (λ f. not (changed f.path)) p ≡ filter (λ f. not (changed f.path)) s
-  pub unmoved : (f : FileTree) → Among p f → changed f.path ≡ false → (key : Key) → Among (uses_of (graph_with (meaning_in p) f).nodes) key → IsUnmoved changed p s key
+  pub unmoved : (f : FileTree) → Among p f → changed f.path ≡ false → (key : Key) → Among (uses_of (digested (graph_with (meaning_in p) f)).nodes) key → IsUnmoved changed p s key
 
--- What the graphs' uses tell is coverage.
+-- What the uses of recorded nodes tell is coverage.
 abbrev pub UsesOfNodesCover : Type 0
 UsesOfNodesCover = (changed : List ℕ → Bool) (p s : List FileTree) → LeavesTheRest changed p s → CoversChanges (implementation p) changed p s
 
