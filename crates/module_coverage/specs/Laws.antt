@@ -1,9 +1,10 @@
 -- Why a file that no change reaches needn't be compiled again.
-use Rattle.std.specs.Prelude.{◌≡◌, ℕ, Bool, false, not, List, filter}
+use Rattle.std.specs.Prelude.{◌≡◌, ℕ, Bool, false, not, List, map, filter, Some}
 use Rattle.queries.specs.Queries.{Among}
 use Rattle.dep_key.specs.declared.key.Key.{Key}
-use Rattle.dep_key.specs.Digests.{digested}
-use Rattle.dep_key.specs.Moved.{uses_of}
+use Rattle.dep_key.specs.declared.graph.Node.{Node}
+use Rattle.dep_key.specs.Digests.{digest_of, digested_node, digested}
+use Rattle.dep_key.specs.Moved.{print_of, uses_of}
 use Rattle.swift_ast.specs.declared.declarations.FileTree.{FileTree}
 use Rattle.type_infer.specs.Meanings.{meaning_in}
 use Rattle.type_infer.specs.Plain.{HasPlainNames}
@@ -24,3 +25,11 @@ UsesOfNodesCover = (changed : List ℕ → Bool) (p s : List FileTree) → Leave
 abbrev pub CoveredFilesAreAlike : Type 0
 CoveredFilesAreAlike = (changed : List ℕ → Bool) (p s : List FileTree) → HasPlainNames p → HasPlainNames s → CoversChanges (implementation p) changed p s →
     (f : FileTree) → Among p f → changed f.path ≡ false → compiled_in p f ≡ compiled_in s f
+
+-- No two different prints that old and new nodes have of the key have one digest.
+abbrev pub DigestsTell : List Node → List Node → Key → Type 0
+DigestsTell old new key = (v w : List ℕ) → print_of old key ≡ Some v → print_of new key ≡ Some w → digest_of key.aspect v ≡ digest_of key.aspect w → v ≡ w
+
+-- Where digests tell prints apart, a key whose recorded print is the same has the same print.
+abbrev pub RecordedPrintsTell : Type 0
+RecordedPrintsTell = (old new : List Node) (key : Key) → DigestsTell old new key → print_of (map digested_node old) key ≡ print_of (map digested_node new) key → print_of old key ≡ print_of new key
