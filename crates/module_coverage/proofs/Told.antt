@@ -15,9 +15,9 @@ digest-print : (nodes : List Node) (key : Key) → print_of (map digested_node n
 digest-print [] key = refl
 digest-print (node ∷ nodes) key = (elim (eq_by_cmp key_order key node.key) as (λ v. eq_by_cmp key_order key node.key ≡ v →
     cond v (Some (digest_of node.key.aspect node.print)) (print_of (map digested_node nodes) key) ≡ option_map (digest_of key.aspect) (cond v (Some node.print) (print_of nodes key))) [
-  | true ↦ λ e. ap (λ (k : Key). Some (digest_of k.aspect node.print)) (sym (same-key key node.key e))
-  | false ↦ λ e. digest-print nodes key
-]) refl
+      | true ↦ λ e. ap (λ (k : Key). Some (digest_of k.aspect node.print)) (sym (same-key key node.key e))
+      | false ↦ λ e. digest-print nodes key
+    ]) refl
 
 told-by : (digest : List ℕ → List ℕ) (o n : Option (List ℕ)) → ((v w : List ℕ) → o ≡ Some v → n ≡ Some w → digest v ≡ digest w → v ≡ w) → option_map digest o ≡ option_map digest n → o ≡ n
 told-by digest None None tell h = refl
