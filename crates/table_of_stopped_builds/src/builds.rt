@@ -133,7 +133,10 @@ pub fn fails_cleanly<R: AllocGlobal>(
 ) -> Result<bool, Error> {
     let mut tree = edited(rt, earlier)?;
     let mut numbers = Vec::new(rt.alloc());
-    numbers.push(number as u32)?;
+    match u32::try_from(number) {
+        Ok(number) => numbers.push(number)?,
+        Err(_) => return Err(anyhow!("a build has too many calls")),
+    }
     tree.fail_calls(numbers);
     if build(rt, &mut tree)? != Status::TreeFault {
         return Ok(false);
