@@ -1,0 +1,5 @@
+pub mod UseKinds
+pub mod PathLemmas
+pub mod PrintLemmas
+pub mod SameFiles
+pub mod CoverageLemmas
